@@ -10,7 +10,8 @@ use Rattle.run_edit.specs.Answers.{ChangesBy}
 use Rattle.run_edit.specs.declared.limits.TheConstants.{LONGEST_BODY}
 use Rattle.run_edit.specs.declared.error.EditorError.TheVariants.{OutOfMemory}
 use Rattle.run_script.specs.Canvases.{draft_canvas}
-use Rattle.run_script.specs.Drawn.{IsScriptDrawn, OneOf}
+use Rattle.run_script.specs.Drawn.{IsScriptDrawn}
+use Rattle.run_script.specs.Lines.{OneOf}
 use Rattle.cli_print.specs.Picturing.{is_called}
 use Rattle.cli_print.specs.Reading.{ReadsAll}
 use Rattle.cli_program.specs.Drawing.{IsUnreadOf, TellsStopFrom}

@@ -1,4 +1,5 @@
 pub mod Cleaning
+pub mod Holding
 pub mod Placing
 pub mod Replacing
 pub mod SumCuts

@@ -3,10 +3,12 @@ pub mod Errors
 pub mod Firsts
 pub mod Known
 pub mod Lines
+pub mod Loops
 pub mod Meant
 pub mod Names
 pub mod Own
 pub mod Reckoned
+pub mod Scopes
 pub mod Scripts
 pub mod Sums
 pub mod Texts

@@ -5,9 +5,10 @@ use Rattle.std.specs.Fmt.{signed_decimal}
 use Rattle.std.specs.List.{join_with_byte, list_any}
 use Rattle.std.specs.Option.{is_none}
 use Rattle.map_tables.specs.Tables.{Tables}
-use Rattle.map_script.specs.Meant.{Meant, meant_by, with_meaning, worded}
+use Rattle.map_script.specs.Meant.{Meant, meant_by, worded}
 use Rattle.map_script.specs.Names.{is_no_reference, is_script_name, number_for}
 use Rattle.map_script.specs.Own.{is_own_word}
+use Rattle.map_script.specs.Scopes.{Scope, with_let}
 use Rattle.map_script.specs.Sums.{sum_value}
 use Rattle.map_script.specs.Texts.{with_word}
 use Rattle.map_script.specs.Words.{text_words}
@@ -121,19 +122,17 @@ let_words (w ∷ ws) =
     if bytes_eq w (codes "let") && is_none (name_in (w ∷ ws)) then Some ws else None
 
 -- the names, with one that now stands for words
-abbrev pub with_words : List (List ℕ × Meant) → List ℕ → Result (List ℕ) DrawError
-    → Result (List (List ℕ × Meant)) DrawError
-with_words known name (Ok words) = Ok (with_meaning known name (worded words))
-with_words known name (Err e) = Err e
+abbrev pub with_words : Scope → List ℕ → Result (List ℕ) DrawError → Result Scope DrawError
+with_words scope name (Ok words) = Ok (with_let scope name (worded words))
+with_words scope name (Err e) = Err e
 
 -- the names after NAME WORD .., or what is wrong with it
-abbrev pub names_after : List (List ℕ × Meant) → Tables → List (List ℕ)
-    → Result (List (List ℕ × Meant)) DrawError
-names_after known m [] = Err NotALet
-names_after known m (n ∷ []) = Err NotALet
-names_after known m (n ∷ w ∷ ws) =
+abbrev pub names_after : Scope → Tables → List (List ℕ) → Result Scope DrawError
+names_after scope m [] = Err NotALet
+names_after scope m (n ∷ []) = Err NotALet
+names_after scope m (n ∷ w ∷ ws) =
     if is_script_name n && not (is_own_word n)
-    then with_words known n (joined_line (words_for known m (w ∷ ws))) else Err NotAName
+    then with_words scope n (joined_line (words_for scope.names m (w ∷ ws))) else Err NotAName
 
 -- ---- How a call ended
 

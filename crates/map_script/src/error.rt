@@ -11,7 +11,10 @@ use thiserror::Error;
 pub enum DrawError {
     /// Behind `let` stand no name and a word.
     NotALet,
-    /// In `NAME = COMMAND` the word before `=` is not a name, or the name of a `let` is none or a word of the language.
+    /// Behind `for` stand no name and two numbers.
+    NotALoop,
+    /// In `NAME = COMMAND` the word before `=` is no name, or that of a `let` or a `for` is none or a word of the
+    /// language.
     NotAName,
     /// A word that begins with `$` isn't `$NAME`, `$NAME.KIND` or `$KIND(X,Y)`, with or without `+N` after it.
     NotAReference,
@@ -31,6 +34,10 @@ pub enum DrawError {
     TooGreat,
     /// The parts of a sum nest more than 64 deep.
     TooDeep,
+    /// A block has no end, an `end` has no block, or blocks stand within blocks more than 64 deep.
+    OpenBlock,
+    /// The turns of loops draw more lines than a script may.
+    TooManyLines,
     OutOfMemory,
 }
 
@@ -79,6 +86,7 @@ impl DrawError {
     {
         match self {
             DrawError::NotALet => (1, "a name and one or more words stand behind let"),
+            DrawError::NotALoop => (1, "a name and two numbers stand behind for"),
             DrawError::NotAName => (20, "a name is a letter, then letters, digits and _"),
             DrawError::NotAReference => (
                 21,
@@ -92,6 +100,11 @@ impl DrawError {
             DrawError::NotWhole => (46, "a quotient of the sum isn't a whole number"),
             DrawError::TooGreat => (46, "a number of the sum has more than 64 bits"),
             DrawError::TooDeep => (46, "the parts of the sum nest more than 64 deep"),
+            DrawError::OpenBlock => (
+                47,
+                "a for without its end, an end without its for, or blocks more than 64 deep",
+            ),
+            DrawError::TooManyLines => (48, "the turns of loops draw more than 1000000 lines"),
             DrawError::OutOfMemory => (31, "out of memory"),
         }
     }

@@ -1,6 +1,6 @@
 //! Lines that give words a name: `let NAME WORD ..`.
 ghost use Rattle.std.specs.Prelude.{◌≡◌, IfErr, IfOk, MatchOption, None, Ok, OnErr, Some, option_copied};
-ghost use Rattle.map_script.specs.Known.{known};
+ghost use Rattle.map_script.specs.Known.{scope_of};
 ghost use Rattle.map_script.specs.Lines.{TellsScriptFault, let_words, names_after};
 ghost use Rattle.map_script.specs.Words.{text_words};
 
@@ -34,10 +34,11 @@ pub fn let_words(line: &[u8]) -> Option<&[u8]>
 /// leftmost word that stands for nothing, or `OutOfMemory`. The names are then unchanged.
 pub fn give_words(alloc: Global, names: &mut Names, map: &Map, text: &[u8]) -> Result<(), DrawError>
     ensures ok { IfOk result (λ _.
-        names_after (known names.old) map.now.tables (text_words text.now) ≡ Ok (known names.new)) }
+        names_after (scope_of names.old) map.now.tables (text_words text.now)
+        ≡ Ok (scope_of names.new)) }
     ensures fault { IfErr result (λ e. TellsScriptFault e
-        (names_after (known names.old) map.now.tables (text_words text.now))) }
-    ensures unchanged { OnErr result (known names.new ≡ known names.old) }
+        (names_after (scope_of names.old) map.now.tables (text_words text.now))) }
+    ensures unchanged { OnErr result (scope_of names.new ≡ scope_of names.old) }
 {
     let Some((name, behind)) = next_word(text) else {
         return Err(DrawError::NotALet);

@@ -1,4 +1,6 @@
 pub mod Currents
 pub mod LineEnds
+pub mod PlacedLines
+pub mod Positions
+pub mod Progressing
 pub mod ShapeSteps
-pub mod Sketches

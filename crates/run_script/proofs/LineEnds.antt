@@ -5,13 +5,13 @@ use Rattle.std.specs.Io.KnownBytes.{Appends, append_known}
 use Rattle.map_script.specs.Errors.{code_of}
 use Rattle.map_tables.specs.Projects.{current_map}
 use Rattle.map_script.specs.Lines.{TellsScriptFault, let_words, line_for, name_in, names_after}
-use Rattle.map_script.specs.Meant.{Meant}
+use Rattle.map_script.specs.Scopes.{Scope}
 use Rattle.map_script.specs.Words.{text_words}
 use Rattle.map_script.specs.declared.firsts.Firsts.{Firsts}
 use Rattle.map_script.specs.declared.firsts.Numbers.{Numbers}
 use Rattle.map_script.specs.declared.error.DrawError.{DrawError}
-use Rattle.map_script.specs.declared.error.DrawError.TheVariants.{NotALet, NotAName, NotAReference, UnknownName, NothingAdded, NumberTooLarge, NothingThere, NotANumber, NotWhole, TooGreat, TooDeep, OutOfMemory}
-use Rattle.run_script.specs.Drawn.{Added, Does, DrawsLet, DrawsLine, DrawsOther, DrawsText, IsTried, Sketch, Stays, asks, sketch_of}
+use Rattle.map_script.specs.declared.error.DrawError.TheVariants.{NotALet, NotALoop, NotAName, NotAReference, UnknownName, NothingAdded, NumberTooLarge, NothingThere, NotANumber, NotWhole, TooGreat, TooDeep, OpenBlock, TooManyLines, OutOfMemory}
+use Rattle.run_script.specs.Lines.{Added, Does, DrawsLet, DrawsLine, DrawsOther, DrawsText, IsTried, Sketch, Stays, asks, sketch_of}
 use Rattle.run_script.specs.Given.{GivesWords, noted_text, with_given_name}
 use Rattle.run_script.specs.declared.canvas.Canvas.{Ghosts}
 use Rattle.run_script.specs.declared.error.ScriptError.{ScriptError}
@@ -23,12 +23,12 @@ Appends-known None bs = tt
 Appends-known (Some xs) bs = refl
 
 faulty : {S : Type 0} (facts : Ghosts S) (verbose : Bool) (line : ℕ × List ℕ) (old new : Sketch S) (e : DrawError)
-    → line_for old.names (current_map (facts.maps_in old.canvas)) line.1 ≡ Err e → Stays old new → DrawsOther facts verbose line old (Some (code_of e)) new
+    → line_for old.names.names (current_map (facts.maps_in old.canvas)) line.1 ≡ Err e → Stays old new → DrawsOther facts verbose line old (Some (code_of e)) new
 faulty facts verbose line old new e is stays = inl (rw is (refl, stays))
 
 -- a line that stands for nothing, or that finds no memory
 pub refused_line : {S : Type 0} (facts : Ghosts S) (verbose : Bool) (line : ℕ × List ℕ) (old new : Sketch S) (e : DrawError)
-    → TellsScriptFault e (line_for old.names (current_map (facts.maps_in old.canvas)) line.1) → Stays old new → DrawsOther facts verbose line old (Some (code_of e)) new
+    → TellsScriptFault e (line_for old.names.names (current_map (facts.maps_in old.canvas)) line.1) → Stays old new → DrawsOther facts verbose line old (Some (code_of e)) new
 refused_line facts verbose line old new NotAName is stays = faulty facts verbose line old new NotAName is stays
 refused_line facts verbose line old new NotAReference is stays = faulty facts verbose line old new NotAReference is stays
 refused_line facts verbose line old new UnknownName is stays = faulty facts verbose line old new UnknownName is stays
@@ -40,11 +40,14 @@ refused_line facts verbose line old new NotANumber is stays = faulty facts verbo
 refused_line facts verbose line old new NotWhole is stays = faulty facts verbose line old new NotWhole is stays
 refused_line facts verbose line old new TooGreat is stays = faulty facts verbose line old new TooGreat is stays
 refused_line facts verbose line old new TooDeep is stays = faulty facts verbose line old new TooDeep is stays
+refused_line facts verbose line old new NotALoop is stays = faulty facts verbose line old new NotALoop is stays
+refused_line facts verbose line old new OpenBlock is stays = faulty facts verbose line old new OpenBlock is stays
+refused_line facts verbose line old new TooManyLines is stays = faulty facts verbose line old new TooManyLines is stays
 refused_line facts verbose line old new OutOfMemory is stays = inr (refl, stays)
 
 -- a line that stands for a text
 pub resolved_line : {S : Type 0} (facts : Ghosts S) (verbose : Bool) (line : ℕ × List ℕ) (old new : Sketch S) (refusal : Option ℕ) (text : List ℕ)
-    → line_for old.names (current_map (facts.maps_in old.canvas)) line.1 ≡ Ok text → DrawsText facts verbose line old refusal new text → DrawsOther facts verbose line old refusal new
+    → line_for old.names.names (current_map (facts.maps_in old.canvas)) line.1 ≡ Ok text → DrawsText facts verbose line old refusal new text → DrawsOther facts verbose line old refusal new
 resolved_line facts verbose line old new refusal text is drawn = inl (rw is drawn)
 
 -- its text is a command
@@ -67,7 +70,7 @@ tried_unsaid {S} facts verbose line text old canvas n firsts done adds =
 
 -- how a line ends whose text is a command
 pub ended_line : {S : Type 0} (facts : Ghosts S) (verbose : Bool) (line : ℕ × List ℕ) (old new : Sketch S) (canvas : S) (text : List ℕ)
-    (r : Result (Option ℕ) ScriptError) → line_for old.names (current_map (facts.maps_in old.canvas)) line.1 ≡ Ok text → asks facts line.1 text ≡ false
+    (r : Result (Option ℕ) ScriptError) → line_for old.names.names (current_map (facts.maps_in old.canvas)) line.1 ≡ Ok text → asks facts line.1 text ≡ false
     → MatchResult r (λ refusal. IsTried facts verbose line text old refusal new)
     (λ e. ((e ≡ cut.OutOfMemory) ⊎ (e ≡ cut.WriterFailed)) × ((x : Sketch S) × IsTried facts verbose line text old None x × (canvas ≡ x.canvas)))
     → MatchResult r (λ refusal. DrawsOther facts verbose line old refusal new)
@@ -81,16 +84,16 @@ ended_line facts verbose line old new canvas text (Err e) is none (cause, (x, tr
 -- ---- Words that are given a name
 
 -- words that were given a name
-pub given_words : {S : Type 0} (facts : Ghosts S) (words : List (List ℕ)) (canvas : S) (old new : List (List ℕ × Meant))
+pub given_words : {S : Type 0} (facts : Ghosts S) (words : List (List ℕ)) (canvas : S) (old new : Scope)
     → names_after old (current_map (facts.maps_in canvas)) words ≡ Ok new → GivesWords facts words canvas old None new
 given_words facts words canvas old new is = inl (rw is (refl, refl))
 
-not-given : {S : Type 0} (facts : Ghosts S) (words : List (List ℕ)) (canvas : S) (old new : List (List ℕ × Meant)) (e : DrawError)
+not-given : {S : Type 0} (facts : Ghosts S) (words : List (List ℕ)) (canvas : S) (old new : Scope) (e : DrawError)
     → names_after old (current_map (facts.maps_in canvas)) words ≡ Err e → new ≡ old → GivesWords facts words canvas old (Some (code_of e)) new
 not-given facts words canvas old new e is same = inl (rw is (refl, same))
 
 -- words that were refused a name
-pub refused_words : {S : Type 0} (facts : Ghosts S) (words : List (List ℕ)) (canvas : S) (old new : List (List ℕ × Meant)) (e : DrawError)
+pub refused_words : {S : Type 0} (facts : Ghosts S) (words : List (List ℕ)) (canvas : S) (old new : Scope) (e : DrawError)
     → TellsScriptFault e (names_after old (current_map (facts.maps_in canvas)) words) → new ≡ old
     → GivesWords facts words canvas old (Some (code_of e)) new
 refused_words facts words canvas old new NotALet is same = not-given facts words canvas old new NotALet is same
@@ -104,6 +107,9 @@ refused_words facts words canvas old new NotANumber is same = not-given facts wo
 refused_words facts words canvas old new NotWhole is same = not-given facts words canvas old new NotWhole is same
 refused_words facts words canvas old new TooGreat is same = not-given facts words canvas old new TooGreat is same
 refused_words facts words canvas old new TooDeep is same = not-given facts words canvas old new TooDeep is same
+refused_words facts words canvas old new NotALoop is same = not-given facts words canvas old new NotALoop is same
+refused_words facts words canvas old new OpenBlock is same = not-given facts words canvas old new OpenBlock is same
+refused_words facts words canvas old new TooManyLines is same = not-given facts words canvas old new TooManyLines is same
 refused_words facts words canvas old new OutOfMemory is same = inr (refl, same)
 
 -- a line that gives words a name

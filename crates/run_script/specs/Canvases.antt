@@ -12,7 +12,7 @@ use Rattle.run_edit.specs.Editing.{outcome_in}
 use Rattle.run_edit.specs.Queries.{IsAnswer, TakesMemory, query_of}
 use Rattle.run_edit.specs.declared.limits.TheConstants.{LONGEST_BODY}
 use Rattle.run_edit.specs.declared.query.Query.{Query}
-use Rattle.run_script.specs.Drawn.{OneOf}
+use Rattle.run_script.specs.Lines.{OneOf}
 use Rattle.run_script.specs.declared.canvas.Canvas as canvas
 
 -- ---- Commands

@@ -6,7 +6,8 @@ use Rattle.map_commands.specs.declared.project.command.ProjectCommand.{ProjectCo
 use Rattle.map_script.specs.Errors.{code_of}
 use Rattle.map_script.specs.Firsts.{firsts_of}
 use Rattle.map_script.specs.Lines.{names_after}
-use Rattle.map_script.specs.Meant.{Meant, numbered, with_meaning}
+use Rattle.map_script.specs.Meant.{numbered}
+use Rattle.map_script.specs.Scopes.{Scope, with_given}
 use Rattle.map_script.specs.declared.firsts.Firsts.{Firsts}
 use Rattle.map_script.specs.declared.firsts.Numbers.{Numbers}
 use Rattle.run_script.specs.declared.canvas.Canvas.{Ghosts}
@@ -18,10 +19,9 @@ AddsFirst text p firsts =
     → firsts ≡ firsts_of c (current_map p)
 
 -- the names, with the one that a line gives to its numbers
-abbrev pub with_given_name : Option (List ℕ) → Numbers → List (List ℕ × Meant)
-    → List (List ℕ × Meant)
+abbrev pub with_given_name : Option (List ℕ) → Numbers → Scope → Scope
 with_given_name None numbers names = names
-with_given_name (Some name) numbers names = with_meaning names name (numbered numbers)
+with_given_name (Some name) numbers names = with_given names name (numbered numbers)
 
 -- `NUMBER: ok N`, if the answers to commands are written
 abbrev pub noted_text : Bool → ℕ → ℕ → List ℕ
@@ -30,8 +30,8 @@ noted_text false number n = []
 
 -- the names after NAME WORD .., or refused with this code: for what is wrong with it, or for lack of
 -- memory
-abbrev pub GivesWords : {S : Type 0} → Ghosts S → List (List ℕ) → S → List (List ℕ × Meant)
-    → Option ℕ → List (List ℕ × Meant) → Type 0
+abbrev pub GivesWords : {S : Type 0} → Ghosts S → List (List ℕ) → S → Scope → Option ℕ → Scope
+    → Type 0
 GivesWords facts words canvas old refusal new =
     MatchResult (names_after old (current_map (facts.maps_in canvas)) words)
     (λ names. (refusal ≡ None) × (new ≡ names))

@@ -1,7 +1,11 @@
+pub mod Blocks
 pub mod Canvases
 pub mod Drawn
 pub mod Errors
 pub mod Given
+pub mod Lines
 pub mod Names
+pub mod Places
 pub mod Refused
 pub mod Shaped
+pub mod Turns

@@ -1,5 +1,5 @@
 -- The names of the refusals of a script's lines, by their numbers (docs/COMMANDS.md, "The refusals").
-use Rattle.std.specs.Prelude.{ℕ, ◌==◌, ◌||◌, nat_lt, List, codes, if◌then◌else◌}
+use Rattle.std.specs.Prelude.{ℕ, ◌==◌, ◌||◌, ◌&&◌, nat_le, nat_lt, List, codes, if◌then◌else◌}
 
 -- the name of one of a command
 abbrev pub command_name : ℕ → List ℕ
@@ -25,7 +25,7 @@ command_name code =
     else (if code == 19 then codes "CurrentMap"
     else codes "Memory"))))))))))))))))))
 
--- the name of one of the names, places and shapes in a script
+-- the name of one of the names, places, shapes and blocks in a script
 abbrev pub script_name : ℕ → List ℕ
 script_name code =
     if code == 20 then codes "NotAName"
@@ -39,7 +39,9 @@ script_name code =
     else (if code == 28 then codes "NotEmpty"
     else (if code == 29 then codes "NoDoor"
     else (if code == 46 then codes "BadSum"
-    else codes "NothingThere"))))))))))
+    else (if code == 47 then codes "OpenBlock"
+    else (if code == 48 then codes "TooManyLines"
+    else codes "NothingThere"))))))))))))
 
 -- the name of one of a project file
 abbrev pub file_name : ℕ → List ℕ
@@ -53,5 +55,5 @@ file_name code =
 abbrev pub stop_name : ℕ → List ℕ
 stop_name code =
     if nat_lt code 20 then command_name code
-    else (if nat_lt code 30 || ((code == 45) || (code == 46)) then script_name code
+    else (if nat_lt code 30 || (nat_le 45 code && nat_le code 48) then script_name code
     else file_name code)

@@ -40,6 +40,8 @@ const OF_NAMES: &[DrawError] = &[
     DrawError::NumberTooLarge,
     DrawError::NothingThere,
     DrawError::NotANumber,
+    DrawError::OpenBlock,
+    DrawError::TooManyLines,
 ];
 
 // The refusals of lines that come from store_project.
@@ -98,6 +100,8 @@ fn script_name(code: u16) -> &'static str
         28 => "NotEmpty",
         29 => "NoDoor",
         46 => "BadSum",
+        47 => "OpenBlock",
+        48 => "TooManyLines",
         _ => "NothingThere",
     }
 }
@@ -120,7 +124,7 @@ pub fn stop_name(code: u16) -> &'static str
 {
     if code < 20 {
         command_name(code)
-    } else if code < 30 || code == 45 || code == 46 {
+    } else if code < 30 || (45 <= code && code <= 48) {
         script_name(code)
     } else {
         file_name(code)

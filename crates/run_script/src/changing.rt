@@ -3,10 +3,10 @@ ghost use Rattle.std.specs.Prelude.{◌≡◌, ◌⊎◌, None, Ok, Err, IfErr, 
 ghost use Rattle.std.specs.Option.{option_copied};
 ghost use Rattle.std.specs.Io.KnownBytes.{Appends};
 ghost use Rattle.map_tables.specs.Projects.{project_of};
-ghost use Rattle.map_script.specs.Known.{known};
+ghost use Rattle.map_script.specs.Known.{scope_of};
 ghost use Rattle.map_script.specs.Views.{seen};
 ghost use Rattle.run_script.specs.declared.error.ScriptError.TheVariants.{OutOfMemory, WriterFailed};
-ghost use Rattle.run_script.specs.Drawn.{Added, Does, IsTried, Sketch, sketch_of};
+ghost use Rattle.run_script.specs.Lines.{Added, Does, IsTried, Sketch, sketch_of};
 ghost use Rattle.run_script.specs.Given.{AddsFirst, noted_text, with_given_name};
 
 use crate::canvas::Canvas;
@@ -45,8 +45,8 @@ fn keep_name(
     name: Option<&[u8]>,
     numbers: Numbers,
 ) -> Result<(), ScriptError>
-    ensures ok { IfOk result (λ _.
-        known names.new ≡ with_given_name (option_copied name.entry) numbers (known names.old)) }
+    ensures ok { IfOk result (λ _. scope_of names.new
+        ≡ with_given_name (option_copied name.entry) numbers (scope_of names.old)) }
     ensures refused { IfErr result (λ e. e ≡ OutOfMemory) }
 {
     match name {
@@ -124,12 +124,12 @@ pub fn try_command<C: Canvas, W: Write>(
 ) -> Result<Option<u16>, ScriptError>
     ensures { MatchResult result
         (λ refusal. IsTried C.Canvas is_verbose (seen line.now) text.now
-        (sketch_of canvas.old (known names.old) (W.contents writer.old))
+        (sketch_of canvas.old (scope_of names.old) (W.contents writer.old))
         refusal
-        (sketch_of canvas.new (known names.new) (W.contents writer.new)))
+        (sketch_of canvas.new (scope_of names.new) (W.contents writer.new)))
         (λ e. ((e ≡ OutOfMemory) ⊎ (e ≡ WriterFailed))
         × ((new : Sketch C) × IsTried C.Canvas is_verbose (seen line.now) text.now
-        (sketch_of canvas.old (known names.old) (W.contents writer.old))
+        (sketch_of canvas.old (scope_of names.old) (W.contents writer.old))
         None new × (canvas.new ≡ new.canvas))) }
 {
     let numbers = match do_line(alloc, canvas, text) {

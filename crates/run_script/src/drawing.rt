@@ -1,13 +1,17 @@
 //! Draws a script line by line, up to the first refused line.
-ghost use Rattle.std.specs.Prelude.{◌≡◌, ◌<◌, [], length, map, IfOk, IfSome};
-ghost use Rattle.map_script.specs.Known.{known};
+ghost use Rattle.std.specs.Prelude.{◌≡◌, ◌⊎◌, ◌<◌, [], length, map, vec_len, IfNone, IfOk, IfSome};
+ghost use Rattle.map_script.specs.Known.{known, scope_of};
 ghost use Rattle.map_script.specs.Views.{seen};
-ghost use Rattle.run_script.specs.Drawn.{IsScriptDrawn};
+ghost use Rattle.run_script.specs.Blocks.{with_places};
+ghost use Rattle.run_script.specs.Drawn.{EndsFrom, IsScriptDrawn, at_first, line_limit};
+ghost use Rattle.run_script.specs.Places.{AdvancesTo, IsFirstReading, IsWithinLines, progress_of};
 
+use crate::blocks::order_fault;
 use crate::canvas::Canvas;
 use crate::error::ScriptError;
 use crate::line::draw_line;
-use map_script::{Names, ScriptLine};
+use crate::reading::{Reading, end_turn, open_loop, place_at_hand};
+use map_script::{DrawError, Names, ScriptLine, loop_words};
 use std::alloc::Global;
 use std::io::Write;
 
@@ -20,10 +24,123 @@ pub struct Stop {
     pub code: u16,
 }
 
+// How many lines more than it has a script may draw, each turn of a loop counted as one.
+const MORE_LINES: usize = 1_000_000;
+
+// How far a script has been read before its first line.
+fn first_reading(alloc: Global, lines: &[ScriptLine]) -> Reading
+    ensures { IsFirstReading (length lines.now) result }
+{
+    Reading {
+        place: 0,
+        until: lines.len(),
+        blocks: Vec::new(alloc),
+    }
+}
+
+// Draws the next line, and returns the code of its refusal.
+fn draw_next<C: Canvas, W: Write>(
+    alloc: Global,
+    canvas: &mut C,
+    names: &mut Names,
+    lines: &[ScriptLine],
+    reading: &mut Reading,
+    is_verbose: bool,
+    writer: &mut W,
+) -> Result<Option<u16>, ScriptError>
+    requires within { IsWithinLines (length lines.now) reading.old }
+    requires some { reading.old.place < reading.old.until }
+    ensures advanced { let all = with_places (map seen lines.now) in
+        AdvancesTo C.Canvas is_verbose
+        (progress_of all canvas.old (scope_of names.old) (W.contents writer.old) reading.old)
+        result
+        (progress_of all canvas.new (scope_of names.new) (W.contents writer.new) reading.new) }
+    ensures within { IfOk result (λ refusal.
+        IfNone refusal (IsWithinLines (length lines.now) reading.new)) }
+{
+    let line = &lines[reading.place];
+    if let Some(words) = loop_words(&line.text) {
+        return Ok(open_loop(alloc, canvas, names, lines, reading, words));
+    }
+    reading.place += 1;
+    draw_line(alloc, canvas, names, line, is_verbose, writer)
+}
+
+// Draws the next line, or ends the innermost turn, and returns the code of a refusal.
+fn advance<C: Canvas, W: Write>(
+    alloc: Global,
+    canvas: &mut C,
+    names: &mut Names,
+    lines: &[ScriptLine],
+    reading: &mut Reading,
+    is_verbose: bool,
+    writer: &mut W,
+) -> Result<Option<u16>, ScriptError>
+    requires within { IsWithinLines (length lines.now) reading.old }
+    requires some { (reading.old.place < reading.old.until) ⊎ (0 < vec_len reading.old.blocks) }
+    ensures advanced { let all = with_places (map seen lines.now) in
+        AdvancesTo C.Canvas is_verbose
+        (progress_of all canvas.old (scope_of names.old) (W.contents writer.old) reading.old)
+        result
+        (progress_of all canvas.new (scope_of names.new) (W.contents writer.new) reading.new) }
+    ensures within { IfOk result (λ refusal.
+        IfNone refusal (IsWithinLines (length lines.now) reading.new)) }
+{
+    if reading.place < reading.until {
+        draw_next(alloc, canvas, names, lines, reading, is_verbose, writer)
+    } else {
+        Ok(end_turn(alloc, names, lines, reading))
+    }
+}
+
+// Draws the lines of a script whose blocks are in order.
+fn draw_all<C: Canvas, W: Write>(
+    alloc: Global,
+    canvas: &mut C,
+    names: &mut Names,
+    lines: &[ScriptLine],
+    is_verbose: bool,
+    writer: &mut W,
+) -> Result<Option<Stop>, ScriptError>
+    requires { known names.old ≡ [] }
+    ensures drawn { EndsFrom C.Canvas is_verbose
+        (at_first canvas.old (W.contents writer.old) (map seen lines.now))
+        (line_limit (map seen lines.now)) result canvas.new (W.contents writer.new) }
+    ensures place { IfOk result (λ stop. IfSome stop (λ s. s.place < length lines.now)) }
+{
+    let mut reading = first_reading(alloc, lines);
+    for _count in 0..MORE_LINES + lines.len() {
+        let Some(place) = place_at_hand(lines, &reading) else {
+            return Ok(None);
+        };
+        match advance(
+            alloc,
+            canvas,
+            names,
+            lines,
+            &mut reading,
+            is_verbose,
+            writer,
+        ) {
+            Ok(None) => {}
+            Ok(Some(code)) => return Ok(Some(Stop { place, code })),
+            Err(error) => return Err(error),
+        }
+    }
+    match place_at_hand(lines, &reading) {
+        None => Ok(None),
+        Some(place) => {
+            let code = DrawError::TooManyLines.code();
+            Ok(Some(Stop { place, code }))
+        }
+    }
+}
+
 /// Draws the lines of a script in order onto a project, or onto maps in memory: resolves the names in each line, and
-/// draws it, up to the first refused line. In a project each command is on the disk before the next line is resolved.
-/// Answers to queries are written; for commands `NUMBER: ok N` is written if `is_verbose`. `names` must be empty at
-/// first; after the call it has the names that the drawn lines gave.
+/// draws it, up to the first refused line. The lines of a loop's block are drawn once for each of its numbers. In a
+/// project each command is on the disk before the next line is resolved. Answers to queries are written; for commands
+/// `NUMBER: ok N` is written if `is_verbose`. `names` must be empty at first; after the call it has the names that the
+/// drawn lines gave. If the blocks are out of order, the script is refused (47), and nothing is drawn.
 ///
 /// # Errors
 ///
@@ -41,13 +158,11 @@ pub fn draw<C: Canvas, W: Write>(
         canvas.old (W.contents writer.old) canvas.new (W.contents writer.new) }
     ensures place { IfOk result (λ stop. IfSome stop (λ s. s.place < length lines.now)) }
 {
-    for place in 0..lines.len() {
-        let line = &lines[place];
-        match draw_line(alloc, canvas, names, line, is_verbose, writer) {
-            Ok(None) => {}
-            Ok(Some(code)) => return Ok(Some(Stop { place, code })),
-            Err(error) => return Err(error),
+    match order_fault(lines) {
+        Some(place) => {
+            let code = DrawError::OpenBlock.code();
+            Ok(Some(Stop { place, code }))
         }
+        None => draw_all(alloc, canvas, names, lines, is_verbose, writer),
     }
-    Ok(None)
 }

@@ -2,6 +2,7 @@
 #![tactic(auto)]
 
 mod asking;
+mod blocks;
 mod calling;
 mod canvas;
 mod changing;
@@ -11,6 +12,7 @@ mod error;
 mod forms;
 mod line;
 mod project_canvas;
+mod reading;
 mod reasons;
 mod refused;
 mod shape_reasons;

@@ -1,10 +1,10 @@
 //! Draws one line of a script, a command or a query.
 ghost use Rattle.std.specs.Prelude.{◌≡◌, ◌⊎◌, None, MatchResult};
-ghost use Rattle.map_script.specs.Known.{known};
+ghost use Rattle.map_script.specs.Known.{scope_of};
 ghost use Rattle.map_script.specs.Views.{seen};
 ghost use Rattle.map_script.specs.Words.{text_words};
 ghost use Rattle.run_script.specs.declared.error.ScriptError.TheVariants.{OutOfMemory, WriterFailed};
-ghost use Rattle.run_script.specs.Drawn.{DrawsLine, DrawsOther, Sketch, asks, sketch_of};
+ghost use Rattle.run_script.specs.Lines.{DrawsLine, DrawsOther, Sketch, asks, sketch_of};
 ghost use Rattle.run_script.specs.Given.{GivesWords};
 
 use crate::canvas::Canvas;
@@ -33,10 +33,10 @@ fn draw_other<C: Canvas, W: Write>(
     is_verbose: bool,
     writer: &mut W,
 ) -> Result<Option<u16>, ScriptError>
-    ensures { let old = sketch_of canvas.old (known names.old) (W.contents writer.old) in
+    ensures { let old = sketch_of canvas.old (scope_of names.old) (W.contents writer.old) in
         MatchResult result
         (λ refusal. DrawsOther C.Canvas is_verbose (seen line.now) old refusal
-        (sketch_of canvas.new (known names.new) (W.contents writer.new)))
+        (sketch_of canvas.new (scope_of names.new) (W.contents writer.new)))
         (λ e. ((e ≡ OutOfMemory) ⊎ (e ≡ WriterFailed))
         × ((canvas.new ≡ canvas.old) ⊎ ((new : Sketch C)
         × DrawsOther C.Canvas is_verbose (seen line.now) old None new
@@ -55,8 +55,8 @@ fn draw_other<C: Canvas, W: Write>(
 
 // Gives words a name, or returns the code of the refusal.
 fn draw_let<C: Canvas>(alloc: Global, canvas: &C, names: &mut Names, words: &[u8]) -> Option<u16>
-    ensures { GivesWords C.Canvas (text_words words.now) canvas.now (known names.old) result
-        (known names.new) }
+    ensures { GivesWords C.Canvas (text_words words.now) canvas.now (scope_of names.old) result
+        (scope_of names.new) }
 {
     match give_words(alloc, names, canvas.maps().current(), words) {
         Ok(()) => None,
@@ -77,10 +77,10 @@ pub fn draw_line<C: Canvas, W: Write>(
     is_verbose: bool,
     writer: &mut W,
 ) -> Result<Option<u16>, ScriptError>
-    ensures { let old = sketch_of canvas.old (known names.old) (W.contents writer.old) in
+    ensures { let old = sketch_of canvas.old (scope_of names.old) (W.contents writer.old) in
         MatchResult result
         (λ refusal. DrawsLine C.Canvas is_verbose (seen line.now) old refusal
-        (sketch_of canvas.new (known names.new) (W.contents writer.new)))
+        (sketch_of canvas.new (scope_of names.new) (W.contents writer.new)))
         (λ e. ((e ≡ OutOfMemory) ⊎ (e ≡ WriterFailed))
         × ((canvas.new ≡ canvas.old) ⊎ ((new : Sketch C)
         × DrawsLine C.Canvas is_verbose (seen line.now) old None new

@@ -4,7 +4,7 @@ use crate::forms::{count_words, first_word, form_near, form_of, range_at};
 use crate::shape_reasons::{decide, meant_shape, places_of};
 use lump_records::{Vertex, is_marker, is_name};
 use map_commands::{Command, ProjectCommand, RoomPlan, parse};
-use map_script::{DrawError, Names, ScriptLine, let_words, resolve};
+use map_script::{DrawError, Names, ScriptLine, let_words, loop_words, resolve};
 use map_shapes::{ShapeError, ShapeHead, shape_head_in};
 use map_tables::{Edit, Item, Kind, Map, Maps};
 use run_edit::read_query;
@@ -322,6 +322,25 @@ fn reason_of_let(
     }
 }
 
+// Says what was wrong with the NAME FROM TO of a loop.
+fn reason_of_loop(
+    alloc: Global,
+    map: &Map,
+    names: &Names,
+    words: &[u8],
+    code: u16,
+) -> Result<String, AllocError> {
+    match code {
+        1 => format!(in alloc; "this is its form: for NAME FROM TO"),
+        20 => reason_of_let(alloc, map, names, words, code),
+        _ => match resolve(alloc, names, map, words) {
+            Ok(_) if code == 46 => format!(in alloc; "FROM and TO are whole numbers of 64 bits"),
+            Ok(_) => says(alloc, code),
+            Err(error) => reason_of_reference(alloc, map, names, words, error),
+        },
+    }
+}
+
 /// Says what was wrong with a line of a script, given the maps as they are and the names of the earlier lines.
 pub fn reason_of(
     alloc: Global,
@@ -330,8 +349,14 @@ pub fn reason_of(
     line: &ScriptLine,
     code: u16,
 ) -> Result<String, AllocError> {
+    if code == DrawError::OpenBlock.code() || code == DrawError::TooManyLines.code() {
+        return says(alloc, code);
+    }
     if let Some(words) = let_words(&line.text) {
         return reason_of_let(alloc, maps.current(), names, words, code);
+    }
+    if let Some(words) = loop_words(&line.text) {
+        return reason_of_loop(alloc, maps.current(), names, words, code);
     }
     let text = match resolve(alloc, names, maps.current(), &line.text) {
         Ok(text) => text,

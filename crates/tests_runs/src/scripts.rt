@@ -53,6 +53,23 @@ const SCRIPTS: &[(&[u8], bool, &[u8], &[u8])] = &[
     (b"vertex 0 0\ncount\nsplt 2 256 160\nvertex 9 9\ncount\n", false,
         b"vertices 1 sectors 0 sides 0 lines 0 things 0\n",
         b"level.txt:3: splt 2 256 160: 1 NotACommand\n  perhaps this is meant: split LINE X Y\n"),
+    (b"for i 0 1\n  for j 2 3\n    vertex $i*64 $j*64\n  end\nend\nfor k 1 0\n  vertex 9 9\nend\ncount", true,
+        b"3: ok 0\n3: ok 1\n3: ok 2\n3: ok 3\nvertices 4 sectors 0 sides 0 lines 0 things 0\n", b""),
+    (b"let span 7 8\nlet i 5\nfor i $span\n  let i 10*$i\n  thing $i 0 90 1 7\nend\nthing $i 0 90 1 7\n\
+        change thing $thing(70,0) ANGLE=0\nchange thing $thing(80,0) ANGLE=0\n\
+        change thing $thing(5,0) ANGLE=0", true,
+        b"5: ok 0\n5: ok 1\n7: ok 2\n8: ok 0\n9: ok 1\n10: ok 2\n", b""),
+    (b"for i 0 0\nlet w 64\nv = vertex $w $i\nend\nvertex $v+8 $v\nvertex $w 0", true, b"3: ok 0\n5: ok 1\n",
+        b"level.txt:6: vertex $w 0: 22 UnknownName\n  no line before has this name\n"),
+    (b"for i 0 1\nvertex $i 0\nvertex 0 $i\nend", true, b"2: ok 0\n",
+        b"level.txt:3: vertex 0 $i: 10 PlaceTaken\n  vertex 0 stands at 0 0\n"),
+    (b"for = vertex 0 0\nend = vertex 1 1\nvertex $for+8 $end", true, b"1: ok 0\n2: ok 1\n3: ok 2\n", b""),
+    (b"vertex 0 0\nfor i 0 9\nfor j 0 9\nend\ncount", true, b"",
+        b"level.txt:2: for i 0 9: 47 OpenBlock\n  \
+        a for without its end, an end without its for, or blocks more than 64 deep\n"),
+    (b"for i 1 9223372036854775807\nend", true, b"",
+        b"level.txt:1: for i 1 9223372036854775807: 48 TooManyLines\n  \
+        the turns of loops draw more than 1000000 lines\n"),
 ];
 
 // The same for a script.
@@ -118,6 +135,12 @@ const REFUSED: &[(&[u8], &[u8])] = &[
     (b"let x 3 $v/0", b"46 BadSum\n  $v/0: a quotient of the sum isn't a whole number\n"),
     (b"vertex $v*2 $v+01", b"46 BadSum\n  $v+01: a part of the sum isn't a number\n"),
     (b"split $hal 0 0", b"22 UnknownName\n  no line before has this name\n"),
+    (b"for i 0\nend", b"1 NotACommand\n  this is its form: for NAME FROM TO\n"),
+    (b"for end 0 1\nend",
+        b"20 NotAName\n  NAME is a letter, then letters, digits and _, and no word of the language\n"),
+    (b"for i 0 $hal\nend", b"22 UnknownName\n  no line before has this name\n"),
+    (b"for i 0 x\nend", b"46 BadSum\n  FROM and TO are whole numbers of 64 bits\n"),
+    (b"end", b"47 OpenBlock\n  a for without its end, an end without its for, or blocks more than 64 deep\n"),
 ];
 
 // The lines before it.

@@ -1,0 +1,91 @@
+-- The lines of blocks, by their places.
+use Rattle.std.proofs.Common.{◌≡◌, ℕ, ◌+◌, ◌-◌, ◌<◌, ◌≤◌, ◌==◌, ◌&&◌, Bool, true, false, cond, List, [], ◌∷◌, ◌++◌, map, length, get_or, take, drop, refl, ap, ap₂, sym, subst, ◌∙◌, arith, add-one, Option, Some, None}
+use Rattle.std.specs.Prelude.{zero, suc}
+use Rattle.std.specs.List.{enumerate_from}
+use Rattle.std.proofs.lemmas.List.{drop-drop, drop-take, length-map, take_all, take_more}
+use Rattle.std.proofs.lemmas.List.FromFn.{length-enumerate_from}
+use Rattle.map_script.specs.Views.{seen}
+use Rattle.map_script.specs.declared.script.ScriptLine.{ScriptLine}
+use Rattle.run_script.specs.Blocks.{behind_block, lines_between, block_len, block_lines, with_places}
+use Rattle.run_script.specs.Drawn.{IsAtPlace}
+use Rattle.run_script.specs.Turns.{Turn}
+
+-- ---- The line at a place
+
+numbered_at : (n i until : ℕ) (lines : List ScriptLine) (x : ScriptLine) → x ≡ get_or lines i x → i < length lines → i < until
+    → drop i (take until (enumerate_from n (map seen lines))) ≡ (n + i, seen x) ∷ drop (suc i) (take until (enumerate_from n (map seen lines)))
+numbered_at n i until [] x is below inside = absurd (omega (arith, below))
+numbered_at n i zero (l ∷ ls) x is below inside = absurd (omega (arith, inside))
+numbered_at n zero (suc u) (l ∷ ls) x is below inside =
+    let here : n ≡ n + 0 = omega arith in
+    ap₂ (λ (k : ℕ) (y : ScriptLine). (k, seen y) ∷ take u (enumerate_from (n + 1) (map seen ls))) here (sym is)
+numbered_at n (suc i) (suc u) (l ∷ ls) x is below inside =
+    let there : n + 1 + i ≡ n + suc i = omega arith in
+    numbered_at (n + 1) i u ls x is (omega (arith, below)) (omega (arith, inside))
+    ∙ ap (λ k. (k, seen x) ∷ drop (suc i) (take u (enumerate_from (n + 1) (map seen ls)))) there
+
+-- the lines from a place on, where a line stands there
+pub next_line : (lines : List ScriptLine) (i until : ℕ) (x : ScriptLine) → x ≡ get_or lines i x → i < length lines → i < until
+    → lines_between (with_places (map seen lines)) i until ≡ (i, seen x) ∷ lines_between (with_places (map seen lines)) (i + 1) until
+next_line lines i until x is below inside =
+    let after : suc i ≡ i + 1 = omega arith in
+    let here : 0 + i ≡ i = omega arith in
+    numbered_at 0 i until lines x is below inside
+    ∙ ap₂ (λ (k m : ℕ). (k, seen x) ∷ drop m (take until (with_places (map seen lines)))) here after
+
+pub item_at : (lines : List ScriptLine) (i : ℕ) → i < length lines → (x : ScriptLine) × (x ≡ get_or lines i x)
+item_at [] i below = absurd (omega (arith, below))
+item_at (l ∷ ls) zero below = (l, refl)
+item_at (l ∷ ls) (suc i) below = item_at ls i (omega (arith, below))
+
+-- it is the place that is at hand
+pub at_next_line : (lines : List ScriptLine) (i until : ℕ) (turns : List Turn) → i < length lines → i < until
+    → IsAtPlace (lines_between (with_places (map seen lines)) i until) turns i
+at_next_line lines i until turns below inside =
+    let (x, is) = item_at lines i below in
+    subst (λ (left : List (ℕ × (ℕ × List ℕ))). IsAtPlace left turns i) (sym (next_line lines i until x is below inside)) refl
+
+drop_none : {X : Type 0} (i : ℕ) → ◌≡◌ {A = List X} (drop i []) []
+drop_none zero = refl
+drop_none (suc i) = refl
+
+-- no line is left
+pub none_left : {X : Type 0} (i until : ℕ) (xs : List X) → until ≤ i → drop i (take until xs) ≡ []
+none_left i zero xs over = drop_none i
+none_left i (suc u) [] over = drop_none i
+none_left zero (suc u) (x ∷ xs) over = absurd (omega (arith, over))
+none_left (suc i) (suc u) (x ∷ xs) over = none_left i u xs (omega (arith, over))
+
+-- all lines
+pub all_between : (lines : List ScriptLine) → lines_between (with_places (map seen lines)) 0 (length lines) ≡ with_places (map seen lines)
+all_between lines =
+    let len : length (with_places (map seen lines)) ≡ length lines = length-enumerate_from 0 (map seen lines) ∙ length-map lines seen in
+    take_all (length lines) (with_places (map seen lines)) (omega (arith, len))
+
+-- ---- The lines of a block
+
+take_front : {X : Type 0} (k m : ℕ) (xs : List X) → k ≤ m → take k (take m xs) ≡ take k xs
+take_front zero m xs le = refl
+take_front (suc k) zero xs le = absurd (omega (arith, le))
+take_front (suc k) (suc m) [] le = refl
+take_front (suc k) (suc m) (x ∷ xs) le = ap (λ ys. x ∷ ys) (take_front k m xs (omega (arith, le)))
+
+front_between : (all : List (ℕ × (ℕ × List ℕ))) (from k until end : ℕ) → from + k ≤ until → end ≡ from + k → take k (lines_between all from until) ≡ lines_between all from end
+front_between all from k until end le is =
+    let rest : until ≡ from + (until - from) = omega (arith, le) in
+    let less : k ≤ until - from = omega (arith, le) in
+    ap (λ n. take k (drop from (take n all))) rest ∙ ap (take k) (drop-take from (until - from) all) ∙ take_front k (until - from) (drop from all) less
+    ∙ sym (drop-take from k all) ∙ ap (λ n. drop from (take n all)) (sym is)
+
+-- the lines of a block that begins at a place and ends at another
+pub body_is : (all : List (ℕ × (ℕ × List ℕ))) (from k until end : ℕ) → k ≡ block_len 0 (lines_between all from until) → from + k ≤ until → end ≡ from + k
+    → block_lines (lines_between all from until) ≡ lines_between all from end
+body_is all from k until end is le at =
+    ap (λ n. take n (lines_between all from until)) (sym is) ∙ front_between all from k until end le at
+
+-- the lines behind it
+pub behind_is : (all : List (ℕ × (ℕ × List ℕ))) (from k until end : ℕ) → k ≡ block_len 0 (lines_between all from until) → end ≡ from + k
+    → behind_block (lines_between all from until) ≡ lines_between all (end + 1) until
+behind_is all from k until end is at =
+    let place : from + (k + 1) ≡ end + 1 = omega (arith, at) in
+    ap (λ n. drop (n + 1) (lines_between all from until)) (sym is) ∙ drop-drop (k + 1) from (take until all) ∙ ap (λ n. drop n (take until all)) place

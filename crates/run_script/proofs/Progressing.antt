@@ -1,0 +1,135 @@
+-- A script that is drawn line by line, and turn by turn.
+use Rattle.std.proofs.Common.{◌≡◌, ◌⊎◌, inl, inr, ℕ, ◌+◌, ◌<◌, ◌≤◌, Bool, List, [], ◌∷◌, ◌++◌, map, length, get_or, refl, ap, ap₂, sym, subst, ◌∙◌, arith, Option, Some, None, Result, Ok, Err}
+use Rattle.std.specs.Prelude.{All, IfNone, IfOk, MatchOption, MatchResult, suc, zero}
+use Rattle.std.proofs.lemmas.List.Elements.{All-nil}
+use Rattle.map_script.specs.Known.{held_entry, in_front_of, known, known_entry, scope_of}
+use Rattle.map_script.specs.Loops.{loop_words}
+use Rattle.map_script.specs.Meant.{Meant}
+use Rattle.map_script.specs.Scopes.{Scope}
+use Rattle.map_script.specs.Views.{seen}
+use Rattle.map_script.specs.Words.{text_words}
+use Rattle.map_script.specs.declared.names.Held.{Held}
+use Rattle.map_script.specs.declared.names.Names.{Names}
+use Rattle.map_script.specs.declared.script.ScriptLine.{ScriptLine}
+use Rattle.run_script.specs.Blocks.{lines_between, with_places}
+use Rattle.run_script.specs.Drawn.{Advances, AdvancesOver, ComesTo, DrawsNext, IsCutOff, Progress, at_first, at_position}
+use Rattle.run_script.specs.Lines.{DrawsLine, Sketch, sketch_of}
+use Rattle.run_script.specs.Turns.{EndsTurn, OpensLoop, Position, Turn}
+use Rattle.run_script.specs.Places.{AdvancesTo, IsBlockWithin, IsFirstReading, IsWithinLines, position_of, progress_of, turns_of}
+use Rattle.run_script.specs.declared.canvas.Canvas.{Ghosts}
+use Rattle.run_script.specs.declared.error.ScriptError.{ScriptError}
+use Rattle.run_script.specs.declared.error.ScriptError.TheVariants as cut
+use Rattle.run_script.specs.declared.reading.Block.{Block}
+use Rattle.run_script.specs.declared.reading.Reading.{Reading}
+use Rattle.run_script.proofs.PlacedLines.{all_between, next_line, none_left}
+
+-- what holds anyway
+pub any_ok : {E : Type 0} (result : Result (Option ℕ) E) {P : Type 0} → P → IfOk result (λ refusal. IfNone refusal P)
+any_ok (Ok None) p = p
+any_ok (Ok (Some code)) p = tt
+any_ok (Err e) p = tt
+
+-- ---- One line, or the end of a turn
+
+at_loop : {S : Type 0} (facts : Ghosts S) (verbose : Bool) (l : ℕ × (ℕ × List ℕ)) (ls : List (ℕ × (ℕ × List ℕ))) (old new : Progress S) (words : List (List ℕ))
+    (refusal : Option ℕ) (at : Position) → loop_words (text_words l.1.1) ≡ Some words
+    → OpensLoop facts words l.0 ls old.sketch.canvas old.sketch.names old.turns refusal at → new ≡ at_position old.sketch at
+    → AdvancesOver facts verbose (l ∷ ls) old refusal new
+at_loop facts verbose l ls old new words refusal at is opens same = rw is (at, opens, same)
+
+at_other : {S : Type 0} (facts : Ghosts S) (verbose : Bool) (l : ℕ × (ℕ × List ℕ)) (ls : List (ℕ × (ℕ × List ℕ))) (old new : Progress S) (refusal : Option ℕ)
+    → loop_words (text_words l.1.1) ≡ None → DrawsNext facts verbose l.1 ls old refusal new → AdvancesOver facts verbose (l ∷ ls) old refusal new
+at_other facts verbose l ls old new refusal is drawn = rw is drawn
+
+-- the line of a loop
+pub met_loop : {S : Type 0} (facts : Ghosts S) (verbose : Bool) (lines : List ScriptLine) (x : ScriptLine) (canvas : S) (names named : Scope) (w : Option (List ℕ))
+    (r s : Reading) (words : List (List ℕ)) (refusal : Option ℕ) → x ≡ get_or lines r.place x → r.place < length lines → r.place < r.until
+    → loop_words (text_words x.text.items) ≡ Some words
+    → OpensLoop facts words r.place (lines_between (with_places (map seen lines)) (r.place + 1) r.until) canvas names (turns_of (with_places (map seen lines)) r.blocks.items) refusal
+    (position_of (with_places (map seen lines)) named s)
+    → Advances facts verbose (progress_of (with_places (map seen lines)) canvas names w r) refusal (progress_of (with_places (map seen lines)) canvas named w s)
+met_loop facts verbose lines x canvas names named w r s words refusal is below inside loop opens =
+    let all : List (ℕ × (ℕ × List ℕ)) = with_places (map seen lines) in
+    let old = progress_of all canvas names w r in
+    let new = progress_of all canvas named w s in
+    subst (λ (left : List (ℕ × (ℕ × List ℕ))). AdvancesOver facts verbose left old refusal new) (sym (next_line lines r.place r.until x is below inside))
+    (at_loop facts verbose (r.place, seen x) (lines_between all (r.place + 1) r.until) old new words refusal (position_of all named s) loop opens refl)
+
+-- another line
+drew_other : {S : Type 0} (facts : Ghosts S) (verbose : Bool) (lines : List ScriptLine) (x : ScriptLine) (s : Sketch S) (r : Reading) (new : Progress S)
+    (refusal : Option ℕ) → x ≡ get_or lines r.place x → r.place < length lines → r.place < r.until → loop_words (text_words x.text.items) ≡ None
+    → DrawsNext facts verbose (seen x) (lines_between (with_places (map seen lines)) (r.place + 1) r.until) (progress_of (with_places (map seen lines)) s.canvas s.names s.written r)
+    refusal new
+    → Advances facts verbose (progress_of (with_places (map seen lines)) s.canvas s.names s.written r) refusal new
+drew_other facts verbose lines x s r new refusal is below inside other drawn =
+    let all : List (ℕ × (ℕ × List ℕ)) = with_places (map seen lines) in
+    let old = progress_of all s.canvas s.names s.written r in
+    subst (λ (left : List (ℕ × (ℕ × List ℕ))). AdvancesOver facts verbose left old refusal new) (sym (next_line lines r.place r.until x is below inside))
+    (at_other facts verbose (r.place, seen x) (lines_between all (r.place + 1) r.until) old new refusal other drawn)
+
+-- how another line ends
+pub ended_next : {S : Type 0} (facts : Ghosts S) (verbose : Bool) (lines : List ScriptLine) (x : ScriptLine) (old new : Sketch S) (canvas : S) (r s : Reading)
+    (result : Result (Option ℕ) ScriptError) → x ≡ get_or lines r.place x → r.place < length lines → r.place < r.until → loop_words (text_words x.text.items) ≡ None
+    → s.place ≡ r.place + 1 → s.until ≡ r.until → s.blocks.items ≡ r.blocks.items → new.canvas ≡ canvas
+    → MatchResult result (λ refusal. DrawsLine facts verbose (seen x) old refusal new)
+    (λ e. ((e ≡ cut.OutOfMemory) ⊎ (e ≡ cut.WriterFailed))
+    × ((canvas ≡ old.canvas) ⊎ ((y : Sketch S) × DrawsLine facts verbose (seen x) old None y × (canvas ≡ y.canvas))))
+    → AdvancesTo facts verbose (progress_of (with_places (map seen lines)) old.canvas old.names old.written r) result
+    (progress_of (with_places (map seen lines)) new.canvas new.names new.written s)
+ended_next facts verbose lines x old new canvas r s (Ok refusal) is below inside other place until blocks has drawn =
+    let all : List (ℕ × (ℕ × List ℕ)) = with_places (map seen lines) in
+    drew_other facts verbose lines x old r (progress_of all new.canvas new.names new.written s) refusal is below inside other
+    (drawn, ap₂ (λ (i j : ℕ). lines_between all i j) place until, ap (turns_of all) blocks)
+ended_next facts verbose lines x old new canvas r s (Err e) is below inside other place until blocks has (cause, inl same) = (cause, inl (has ∙ same))
+ended_next {S} facts verbose lines x old new canvas r s (Err e) is below inside other place until blocks has (cause, inr (y, drawn, at)) =
+    let all : List (ℕ × (ℕ × List ℕ)) = with_places (map seen lines) in
+    let last : Progress S = record { sketch = y; lines = lines_between all (r.place + 1) r.until; turns = turns_of all r.blocks.items } in (
+      cause,
+      inr (last, drew_other facts verbose lines x old r last None is below inside other (drawn, refl, refl), has ∙ at),
+    )
+
+-- ---- Many of them
+
+-- one more
+pub ComesTo-more : {S : Type 0} (facts : Ghosts S) (verbose : Bool) (first mid new : Progress S) (n : ℕ) → ComesTo facts verbose first n mid
+    → Advances facts verbose mid None new → ComesTo facts verbose first (n + 1) new
+ComesTo-more facts verbose first mid new n reached drawn =
+    let more : suc n ≡ n + 1 = omega arith in
+    subst (λ m. ComesTo facts verbose first m new) more (mid, reached, drawn)
+
+-- lines were drawn, and perhaps one more, when a call was cut off
+pub cut_off_at : {S : Type 0} (facts : Ghosts S) (verbose : Bool) (first mid : Progress S) (canvas : S) (n : ℕ) → ComesTo facts verbose first n mid
+    → (canvas ≡ mid.sketch.canvas) ⊎ ((last : Progress S) × Advances facts verbose mid None last × (canvas ≡ last.sketch.canvas))
+    → IsCutOff facts verbose first canvas
+cut_off_at facts verbose first mid canvas n reached (inl same) = record { count = n; last = mid; reached = reached; has = same }
+cut_off_at facts verbose first mid canvas n reached (inr (last, drawn, at)) =
+    record { count = suc n; last = last; reached = (mid, reached, drawn); has = at }
+
+-- ---- All of them
+
+held_len : (hs : List Held) (others : List (List ℕ × Meant)) → length (in_front_of hs others) ≡ length hs + length others
+held_len [] others = omega arith
+held_len (h ∷ hs) others = held_len hs (held_entry h ∷ others) ∙ omega arith
+
+-- before the first line
+pub at_start : {S : Type 0} (canvas : S) (names : Names) (w : Option (List ℕ)) (lines : List ScriptLine) (r : Reading) → known names ≡ []
+    → IsFirstReading (length lines) r → progress_of (with_places (map seen lines)) canvas (scope_of names) w r ≡ at_first canvas w (map seen lines)
+at_start canvas names w lines r none first =
+    let count : length names.held.items + length (map known_entry names.table.entries) ≡ 0 =
+    sym (held_len names.held.items (map known_entry names.table.entries)) ∙ ap length none in
+    let held : length names.held.items ≡ 0 = omega (arith, count) in
+    let all : lines_between (with_places (map seen lines)) r.place r.until ≡ with_places (map seen lines) =
+    ap₂ (λ (i j : ℕ). lines_between (with_places (map seen lines)) i j) first.place first.until ∙ all_between lines in
+    let turns : turns_of (with_places (map seen lines)) r.blocks.items ≡ [] = ap (turns_of (with_places (map seen lines))) first.blocks in
+    λ i. record {
+      sketch = record { canvas = canvas; names = record { names = none i; held = held i }; written = w };
+      lines = all i;
+      turns = turns i;
+    }
+
+-- it is within the lines
+pub start_within : (count : ℕ) (r : Reading) → IsFirstReading count r → IsWithinLines count r
+start_within count r first = record {
+  until = omega (arith, first.until);
+  blocks = subst (λ (bs : List Block). All (IsBlockWithin count) bs) (sym first.blocks) (All-nil (IsBlockWithin count));
+}
