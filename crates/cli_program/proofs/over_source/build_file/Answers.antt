@@ -3,8 +3,8 @@ use Rattle.cli_program.proofs.Scripted.{some_of_maps, some_of_script, some_of_wa
 use Rattle.cli_program.proofs.Sources.{of_some_maps}
 use Rattle.cli_program.proofs.over_source.build_file.Goals as goal
 
-pub returns-in-Script-clause-built : goal.returns-in-Script-clause-built
-returns-in-Script-clause-built g c = some_of_script _ _ _ _ _ _ _ _ _ _ c.build_script.ensures.built
+pub returns-in-Ok-Text-clause-built : goal.returns-in-Ok-Text-clause-built
+returns-in-Ok-Text-clause-built g c = some_of_script _ _ _ _ _ _ _ _ _ _ c.build_script.ensures.built
 
 pub returns-clause-built : goal.returns-clause-built
 returns-clause-built g c =

@@ -3,11 +3,11 @@ use Rattle.cli_program.proofs.Scripted.{some_of_maps, some_of_script, some_of_wa
 use Rattle.cli_program.proofs.Sources.{of_some_maps}
 use Rattle.cli_program.proofs.over_source.check_file.Goals as goal
 
-pub returns-in-Wad-clause-found : goal.returns-in-Wad-clause-found
-returns-in-Wad-clause-found g c = some_of_wad _ _ _ _ _ _ _ _ _ _ c.check_wad.ensures.found (Keeps-refl (g.F.Write.contents c.args.faults.now))
+pub returns-in-Ok-Wad-clause-found : goal.returns-in-Ok-Wad-clause-found
+returns-in-Ok-Wad-clause-found g c = some_of_wad _ _ _ _ _ _ _ _ _ _ c.check_wad.ensures.found (Keeps-refl (g.F.Write.contents c.args.faults.now))
 
-pub returns-in-Script-clause-found : goal.returns-in-Script-clause-found
-returns-in-Script-clause-found g c = some_of_script _ _ _ _ _ _ _ _ _ _ c.check_script.ensures.found
+pub returns-in-Ok-Text-clause-found : goal.returns-in-Ok-Text-clause-found
+returns-in-Ok-Text-clause-found g c = some_of_script _ _ _ _ _ _ _ _ _ _ c.check_script.ensures.found
 
 pub returns-clause-found : goal.returns-clause-found
 returns-clause-found g c =

@@ -4,11 +4,11 @@ use Rattle.cli_program.proofs.Scripted.{some_of_maps, some_of_script}
 use Rattle.cli_program.proofs.Sources.{of_some_maps}
 use Rattle.cli_program.proofs.over_source.dump_file.Goals as goal
 
-pub returns-in-Wad-clause-dumped : goal.returns-in-Wad-clause-dumped
-returns-in-Wad-clause-dumped g c = some_of_told _ _ _ _ _ _ _ _ _ _ c.dump_wad.ensures.dumped
+pub returns-in-Ok-Wad-clause-dumped : goal.returns-in-Ok-Wad-clause-dumped
+returns-in-Ok-Wad-clause-dumped g c = some_of_told _ _ _ _ _ _ _ _ _ _ c.dump_wad.ensures.dumped
 
-pub returns-in-Script-clause-dumped : goal.returns-in-Script-clause-dumped
-returns-in-Script-clause-dumped g c = some_of_script _ _ _ _ _ _ _ _ _ _ c.dump_script.ensures.dumped
+pub returns-in-Ok-Text-clause-dumped : goal.returns-in-Ok-Text-clause-dumped
+returns-in-Ok-Text-clause-dumped g c = some_of_script _ _ _ _ _ _ _ _ _ _ c.dump_script.ensures.dumped
 
 pub returns-clause-dumped : goal.returns-clause-dumped
 returns-clause-dumped g c =

@@ -3,11 +3,11 @@ use Rattle.cli_program.proofs.Scripted.{some_of_maps, some_of_script, some_of_wa
 use Rattle.cli_program.proofs.Sources.{of_some_maps}
 use Rattle.cli_program.proofs.over_source.picture_file.Goals as goal
 
-pub returns-in-Wad-clause-pictured : goal.returns-in-Wad-clause-pictured
-returns-in-Wad-clause-pictured g c = some_of_wad _ _ _ _ _ _ _ _ _ _ c.picture_wad.ensures.pictured (Keeps-refl (g.F.Write.contents c.args.faults.now))
+pub returns-in-Ok-Wad-clause-pictured : goal.returns-in-Ok-Wad-clause-pictured
+returns-in-Ok-Wad-clause-pictured g c = some_of_wad _ _ _ _ _ _ _ _ _ _ c.picture_wad.ensures.pictured (Keeps-refl (g.F.Write.contents c.args.faults.now))
 
-pub returns-in-Script-clause-pictured : goal.returns-in-Script-clause-pictured
-returns-in-Script-clause-pictured g c = some_of_script _ _ _ _ _ _ _ _ _ _ c.picture_script.ensures.pictured
+pub returns-in-Ok-Text-clause-pictured : goal.returns-in-Ok-Text-clause-pictured
+returns-in-Ok-Text-clause-pictured g c = some_of_script _ _ _ _ _ _ _ _ _ _ c.picture_script.ensures.pictured
 
 pub returns-clause-pictured : goal.returns-clause-pictured
 returns-clause-pictured g c =
