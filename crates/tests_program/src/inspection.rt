@@ -327,7 +327,7 @@ const TWO_MAPS: &[Call] = &[
         b"",
         1,
         b"",
-        b"leveled: 70 NotAWad\n",
+        b"leveled: 70 NotAWad\n  two.lv: is a project\n",
     ),
 ];
 

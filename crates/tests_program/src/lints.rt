@@ -91,7 +91,7 @@ const BESIDE: &[(&[&str], u8, &[u8], &[u8])] = &[
         &["leveled", "lint", "names.lv", "--iwad", "names.lv"],
         1,
         b"",
-        b"leveled: 70 NotAWad\n",
+        b"leveled: 70 NotAWad\n  names.lv: is a project\n",
     ),
     (
         &["leveled", "lint", "names.lv", "--iwad", "none.wad"],

@@ -38,13 +38,16 @@ type Row = (
 const NO_FILE: &[u8] =
     b"leveled: 30 Device\n  leveled_project_run_file: No such file or directory\n";
 
+// Standard error if it is there already.
+const NO_ROOM: &[u8] = b"leveled: 43 NotEmpty\n  leveled_project_run_file: is a project\n";
+
 const FILE_ROWS: &[Row] = &[
     ("edit", b"vertex 0 0\n", 1, b"", NO_FILE),
     ("check", b"", 1, b"", NO_FILE),
     ("dump", b"", 1, b"", NO_FILE),
     ("lint", b"", 1, b"", NO_FILE),
     ("create", b"", 0, b"created\n", b""),
-    ("create", b"", 1, b"", b"leveled: 43 NotEmpty\n"),
+    ("create", b"", 1, b"", NO_ROOM),
     ("check", b"", 3, b"no player start\nfindings 1\n", b""),
     (
         "edit",
@@ -157,7 +160,11 @@ const DAMAGE: &[(u64, &[u8], &[u8])] = &[
     (158, b"!", b"leveled: 40 Damaged at 144\n"),
     (16, b"\0", b"leveled: 41 Blank\n"),
     (8, b"\x20", b"leveled: 44 BadGeometry\n"),
-    (0, b"P", b"leveled: 42 NotAProject\n"),
+    (
+        0,
+        b"P",
+        b"leveled: 42 NotAProject\n  leveled_project_run_damaged: is no project, no WAD and no text\n",
+    ),
 ];
 
 // Makes the file of a small project with one vertex, and returns the output.
