@@ -1,6 +1,7 @@
 -- What is counted before the rules are tested.
 use Rattle.map_tables.specs.Tables.{Tables}
 use Rattle.map_plane.specs.Bands.{AreFiledLines}
+use Rattle.map_plane.specs.Crossed.{MarksCrossed}
 use Rattle.map_play.specs.Game.{AreGameFacts}
 use Rattle.map_play.specs.Tags.{MarksTags}
 use Rattle.map_lint.specs.declared.facts.Facts.{Facts}
@@ -14,4 +15,5 @@ pub record AreFacts (m : Tables) (f : Facts) : Type 0 where
   pub bordered : MarksBordered m m.lines f.bordered.items
   pub areas : AreAreas m f.areas.items
   pub filed : AreFiledLines m f.filed
+  pub crossed : MarksCrossed m f.crossed.items
   pub game : AreGameFacts m f.game

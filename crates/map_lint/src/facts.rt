@@ -7,13 +7,13 @@ use crate::borders::bordered_sectors;
 use crate::error::LintError;
 use crate::starts::starts_of;
 use crate::tags::tags_of_lines;
-use map_plane::{FiledLines, file_lines};
+use map_plane::{FiledLines, crossed_lines, file_lines};
 use map_play::{GameFacts, game_facts};
 use map_tables::Map;
 use std::alloc::Global;
 
 /// The tags that lines have, how many things have each type below 5, which sectors have a border, twice the area of
-/// each sector, the lines in bands of rows, and what decides whether a game goes on.
+/// each sector, the lines in bands of rows, which lines meet another one, and what decides whether a game goes on.
 #[derive(Drop)]
 pub(crate) struct Facts {
     pub line_tags: Vec<bool>,
@@ -21,6 +21,7 @@ pub(crate) struct Facts {
     pub bordered: Vec<bool>,
     pub areas: Vec<i128>,
     pub filed: FiledLines,
+    pub crossed: Vec<bool>,
     pub game: GameFacts,
 }
 
@@ -33,6 +34,7 @@ pub(crate) fn facts_of(alloc: Global, map: &Map) -> Result<Facts, LintError>
     let bordered = bordered_sectors(alloc, map)?;
     let areas = areas_of(alloc, map)?;
     let filed = file_lines(alloc, map)?;
+    let crossed = crossed_lines(alloc, map)?;
     let game = game_facts(alloc, map, &filed)?;
     Ok(Facts {
         line_tags,
@@ -40,6 +42,7 @@ pub(crate) fn facts_of(alloc: Global, map: &Map) -> Result<Facts, LintError>
         bordered,
         areas,
         filed,
+        crossed,
         game,
     })
 }

@@ -7,6 +7,8 @@ ghost use Rattle.map_lint.specs.Tallies.{MarksBordered, AreAreas};
 ghost use Rattle.map_lint.specs.Tags.{line_tag, tag_of_no_sector, tag_of_no_line, needs_line};
 ghost use Rattle.map_lint.specs.Areas.{is_inside_out};
 ghost use Rattle.map_plane.specs.Bands.{AreFiledLines};
+ghost use Rattle.map_plane.specs.Crossed.{MarksCrossed};
+ghost use Rattle.map_plane.specs.Meeting.{meets_another};
 ghost use Rattle.map_plane.specs.Outside.{is_place_outside};
 ghost use Rattle.lump_records.specs.Things.{thing_place};
 ghost use Rattle.map_plane.specs.Places.{placed_lines};
@@ -18,7 +20,7 @@ use crate::known::{is_known_line, is_known_sector, is_known_thing, needs_tag};
 use crate::starts::{starts_twice, things_of_type};
 use crate::warning::Rule;
 use lump_records::{Line, Name8, Sector, Side, Thing};
-use map_plane::{FiledLines, is_in_no_sector, meets_another};
+use map_plane::{FiledLines, is_in_no_sector};
 use map_play::{
     door_without_back, is_donut_gap, is_scroll_too_many, is_stuck, leads_nowhere, overfills_list,
     stays_locked, tag_of,
@@ -88,6 +90,17 @@ fn is_inside_out(map: &Map, bordered: &[bool], areas: &[i128], n: u32) -> bool
     }
 }
 
+// Whether there is a line n, and it meets another one.
+fn is_crossed(map: &Map, crossed: &[bool], n: u32) -> bool
+    requires { MarksCrossed map.now.tables crossed.now }
+    ensures { result ≡ meets_another (placed_lines map.now.tables) n }
+{
+    match crossed.get(n as usize) {
+        Some(is_crossed) => *is_crossed,
+        None => false,
+    }
+}
+
 // Whether the rule is one that needs only a number, and the number breaks it.
 fn number_breaks(map: &Map, facts: &Facts, rule: Rule, n: u32) -> bool
     requires { AreFacts map.now.tables facts.now }
@@ -97,7 +110,7 @@ fn number_breaks(map: &Map, facts: &Facts, rule: Rule, n: u32) -> bool
         Rule::PlayerStart => n == 1 && things_of_type(map, 1) == 0,
         Rule::DeathmatchStarts => 0 < n && things_of_type(map, 11) == n,
         Rule::SectorInside => is_inside_out(map, &facts.bordered, &facts.areas, n),
-        Rule::LinesApart => meets_another(&facts.filed, n),
+        Rule::LinesApart => is_crossed(map, &facts.crossed, n),
         Rule::DonutBacked => is_donut_gap(map, &facts.game, n),
         Rule::ScrollsFit => is_scroll_too_many(map, &facts.game, n),
         Rule::LevelEnds => n == 0 && !facts.game.has_exit,

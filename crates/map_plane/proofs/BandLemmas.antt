@@ -94,18 +94,6 @@ band_between first last low y high f l below above =
 
 -- ---- lines that meet
 
--- a line that meets another one has a row in one of its bands
-pub meets_in_band : (l k : PlacedLine) (first last : ℕ) → IsBandOf (int_min l.from.y l.to.y) first → IsBandOf (int_max l.from.y l.to.y) last
-    → meets l k ≡ true → (b : ℕ) × (first ≤ b) × (b < last + 1) × (is_in_band b k ≡ true)
-unfolding meets boxes_meet
-meets_in_band l k first last f g h =
-    let apart = and_both (not (l.number == k.number) && (spans_meet l.from.x l.to.x k.from.x k.to.x && spans_meet l.from.y l.to.y k.from.y k.to.y)) (share l k) h in
-    let boxes = and_both (not (l.number == k.number)) (spans_meet l.from.x l.to.x k.from.x k.to.x && spans_meet l.from.y l.to.y k.from.y k.to.y) apart.0 in
-    let rows = and_both (spans_meet l.from.x l.to.x k.from.x k.to.x) (spans_meet l.from.y l.to.y k.from.y k.to.y) boxes.1 in
-    let y = spans_begin l.from.y l.to.y k.from.y k.to.y rows.1 in
-    let at = band_between first last (int_min l.from.y l.to.y) y.0 (int_max l.from.y l.to.y) f g y.1.first_low y.1.first_high in
-    (at.0, at.1, at.2, row_in_band k y.0 at.0 y.1.second_low y.1.second_high at.3)
-
 module _ {X : Type 0} (t : X → Bool) where
   any_kept : (p : Bool) (x : X) (fs xs : List X) → (list_any t fs ≡ true → list_any t xs ≡ true)
       → list_any t (cond p (x ∷ fs) fs) ≡ true → (t x || list_any t xs) ≡ true

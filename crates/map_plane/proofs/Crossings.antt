@@ -53,7 +53,7 @@ abuts_within k l q at w =
 -- ---- where on a line a point lies
 
 -- a point of a line is an end of it, or a mean with both weights positive
-place_on : (l : PlacedLine) (t u : ℤ) (p : ExactPoint) → IsMean l t u p → IsEnd l p ⊎ ((pos 0 <ℤ t) × (pos 0 <ℤ u))
+pub place_on : (l : PlacedLine) (t u : ℤ) (p : ExactPoint) → IsMean l t u p → IsEnd l p ⊎ ((pos 0 <ℤ t) × (pos 0 <ℤ u))
 place_on l t u p m =
     by_lt_z (pos 0) t
     (λ t0. by_lt_z (pos 0) u

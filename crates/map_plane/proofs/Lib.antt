@@ -6,5 +6,6 @@ pub mod LineReads
 pub mod NearestSteps
 pub mod BandLemmas
 pub mod FilingSteps
-pub mod BoxSteps
 pub mod SquareLemmas
+pub mod Apart
+pub mod Marks

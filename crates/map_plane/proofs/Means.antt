@@ -33,10 +33,10 @@ vertex_is u v x y = λ i. record { x = x i; y = y i }
 -- ---- a mean's side values
 
 -- the side value of a point with denominator d
-abbrev turn_of : Vertex → Vertex → ℤ → ℤ → ℤ → ℤ
+abbrev pub turn_of : Vertex → Vertex → ℤ → ℤ → ℤ → ℤ
 turn_of a b x y d = (b.y -ℤ a.y) *ℤ (x -ℤ d *ℤ a.x) -ℤ (b.x -ℤ a.x) *ℤ (y -ℤ d *ℤ a.y)
 
-turn_of_mean : (a b c e : Vertex) (s v : ℤ) → s *ℤ turn a b c +ℤ v *ℤ turn a b e ≡ turn_of a b (s *ℤ c.x +ℤ v *ℤ e.x) (s *ℤ c.y +ℤ v *ℤ e.y) (s +ℤ v)
+pub turn_of_mean : (a b c e : Vertex) (s v : ℤ) → s *ℤ turn a b c +ℤ v *ℤ turn a b e ≡ turn_of a b (s *ℤ c.x +ℤ v *ℤ e.x) (s *ℤ c.y +ℤ v *ℤ e.y) (s +ℤ v)
 turn_of_mean a b c e s v =
     by_ring (a.x ∷ a.y ∷ b.x ∷ b.y ∷ c.x ∷ c.y ∷ e.x ∷ e.y ∷ s ∷ v ∷ []) _ _ (search quotes depth 30 fits 20000) (search quotes depth 30 fits 20000) tt
 

@@ -1,10 +1,10 @@
 pub mod Places
 pub mod Meeting
+pub mod Crossed
 pub mod Segments
 pub mod Outside
 pub mod Found
 pub mod Nearest
 pub mod Polygon
 pub mod Bands
-pub mod Boxes
 pub mod Squares

@@ -1,8 +1,6 @@
 //! The lines of a map, sorted into bands of 128 rows.
 ghost use Rattle.std.specs.Prelude.{◌≡◌, [], length, IfOk, OnOk};
 ghost use Rattle.std.specs.Int.{int_min, int_max};
-ghost use Rattle.std.specs.List.{list_any};
-ghost use Rattle.map_plane.specs.Meeting.{meets, meets_another};
 ghost use Rattle.map_plane.specs.Nearest.{nearest, sector_of_place};
 ghost use Rattle.map_plane.specs.Outside.{is_place_outside};
 ghost use Rattle.map_plane.specs.Bands.{IsBandOf, FilesLine, AreBands, AreFiled, IsFiling, AreFiledLines};
@@ -100,32 +98,6 @@ pub fn file_lines(alloc: Global, map: &Map) -> Result<FiledLines, AllocError>
 {
     let lines = placed_lines(alloc, map)?;
     file_each(alloc, lines)
-}
-
-// Whether the line meets another one. Both then have a band in common, so only the line's own bands are searched.
-fn meets_near(filed: &FiledLines, line: &PlacedLine) -> bool
-    requires { AreFiled filed.now }
-    ensures { result ≡ list_any (meets line.now) filed.now.lines.items }
-{
-    let first = first_band(line);
-    let last = last_band(line);
-    for band in first..last + 1 {
-        if filed.bands[band].meets_any(line) {
-            return true;
-        }
-    }
-    false
-}
-
-/// Whether there is a line n, and it meets another one.
-pub fn meets_another(filed: &FiledLines, n: u32) -> bool
-    requires { AreFiled filed.now }
-    ensures { result ≡ meets_another filed.now.lines.items n }
-{
-    match filed.lines.get(n as usize) {
-        Some(line) => meets_near(filed, line),
-        None => false,
-    }
 }
 
 /// Whether the place lies in no sector.

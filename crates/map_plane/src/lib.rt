@@ -3,6 +3,8 @@
 
 mod band;
 mod bands;
+mod crossed;
+mod dividing;
 mod east;
 mod found;
 mod laws;
@@ -13,9 +15,8 @@ mod polygon;
 mod squares;
 
 pub use band::Band;
-pub use bands::{
-    FiledLines, band_of, file_each, file_lines, is_in_no_sector, meets_another, sector_here,
-};
+pub use bands::{FiledLines, band_of, file_each, file_lines, is_in_no_sector, sector_here};
+pub use crossed::crossed_lines;
 pub use east::{nearest, sector_at, sector_shown};
 pub use found::{line_at, thing_at, vertex_at};
 pub use laws::tell_crossings;

@@ -9,6 +9,8 @@ mod checks;
 #[cfg(test)]
 mod commands;
 #[cfg(test)]
+mod crossed;
+#[cfg(test)]
 mod draw;
 pub mod drawing;
 #[cfg(test)]

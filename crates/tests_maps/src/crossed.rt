@@ -1,0 +1,79 @@
+//! Which of many lines meet another one, beside what each two of them alone are found to do.
+
+use crate::drawing::{AMPLE, SECTOR, answer, drawn};
+use crate::expect::same;
+use map_plane::crossed_lines;
+use map_tables::Maps;
+use std::alloc::Global;
+use std::test::Fail;
+
+// How many lines there are: more than are compared each with each.
+const LINES: u32 = 48;
+
+// Where the lines come from, and how far apart the places are on which they end.
+const DRAWINGS: [(u32, i32); 6] = [(1, 1), (2, 1), (3, 7), (4, 100), (5, 1000), (6, 2000)];
+
+// A number that follows from others, without an order that is easily seen.
+fn mixed(seed: u32, n: u32) -> u32 {
+    let first = seed
+        .wrapping_mul(2_654_435_761)
+        .wrapping_add(n.wrapping_mul(40_503));
+    let second = (first ^ (first >> 15)).wrapping_mul(2_246_822_519);
+    second ^ (second >> 13)
+}
+
+// The map of 64 vertices in eight rows and eight columns.
+fn grid(alloc: Global, apart: i32) -> Result<Maps, Fail> {
+    let mut maps = drawn(alloc, &[SECTOR, b"side 0 0 - - - 0"])?;
+    for n in 0..64i32 {
+        let mut text = String::new(alloc);
+        write!(text, "vertex {} {}", n % 8 * apart, n / 8 * apart)?;
+        answer(&mut maps, text.as_bytes(), AMPLE)?;
+    }
+    Ok(maps)
+}
+
+// Draws the n-th line, from one of the vertices to one of the three behind it.
+fn draw_line(alloc: Global, maps: &mut Maps, seed: u32, n: u32) -> Result<(), Fail> {
+    let from = mixed(seed, n) % 64;
+    let to = (from + 1 + mixed(seed, n + 1000) % 21) % 64;
+    let mut text = String::new(alloc);
+    write!(text, "line {from} {to} 4 0 0 0 0")?;
+    answer(maps, text.as_bytes(), AMPLE)?;
+    Ok(())
+}
+
+// Whether the two lines meet.
+fn is_pair_crossed(alloc: Global, apart: i32, seed: u32, n: u32, other: u32) -> Result<bool, Fail> {
+    let mut maps = grid(alloc, apart)?;
+    draw_line(alloc, &mut maps, seed, n)?;
+    draw_line(alloc, &mut maps, seed, other)?;
+    Ok(crossed_lines(alloc, maps.current())?.contains(&true))
+}
+
+// Whether the line meets one of the others, each alone with it.
+fn is_crossed(alloc: Global, apart: i32, seed: u32, n: u32) -> Result<bool, Fail> {
+    for other in 0..LINES {
+        if other != n && is_pair_crossed(alloc, apart, seed, n, other)? {
+            return Ok(true);
+        }
+    }
+    Ok(false)
+}
+
+#[test]
+fn lines_meet_as_each_two_of_them_do(rt: HostRuntime) -> Result<(), Fail> {
+    let alloc = rt.alloc();
+    for (seed, apart) in DRAWINGS {
+        let mut maps = grid(alloc, apart)?;
+        for n in 0..LINES {
+            draw_line(alloc, &mut maps, seed, n)?;
+        }
+        let crossed = crossed_lines(alloc, maps.current())?;
+        for n in 0..LINES {
+            let alone = is_crossed(alloc, apart, seed, n)?;
+            same(&rt, &crossed.get(n as usize).copied(), &Some(alone));
+        }
+    }
+    Ok(())
+}
