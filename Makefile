@@ -40,6 +40,7 @@ stress: all
 	bench/damage bin/leveled
 	bench/round bin/leveled
 	bench/areas bin/leveled
+	bench/hostile bin/leveled
 	bench/limits
 	bench/memory
 
