@@ -29,10 +29,10 @@ shown_text text = shown_within 60 text
 abbrev pub shown_line : List ℕ → List ℕ
 shown_line line = if length line == 0 then [] else shown_within 120 line ++ 10 ∷ []
 
--- the byte ends a line
-abbrev pub is_line_end : ℕ → Bool
-is_line_end b = b == 10
+-- the byte is LF
+abbrev pub is_line_feed : ℕ → Bool
+is_line_feed b = b == 10
 
 -- the lines of a text as they are shown
 unfoldable pub shown_lines : List ℕ → List ℕ
-shown_lines text = flat_map shown_line (slice_split is_line_end text)
+shown_lines text = flat_map shown_line (slice_split is_line_feed text)
