@@ -187,8 +187,8 @@ where
 ///
 /// # Errors
 ///
-/// `Dash` if the path is `-`, `NoPwad` or `NoPicture` if the file at the path may not be replaced, `Held` if another program is making a new file
-/// for this path, `System`, or `OutOfMemory`.
+/// `Dash` if the path is `-`, `NoPwad` or `NoPicture` if the file at the path may not be replaced, `Held` if another
+/// program is making a new file for this path, `System`, or `OutOfMemory`.
 pub fn open_new<E: Files>(
     alloc: Global,
     rt: &E,
