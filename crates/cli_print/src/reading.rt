@@ -65,8 +65,8 @@ fn is_surplus(read_for: ReadFor, turns: u32, bytes: &[u8], why: &mut Option<Caus
     }
 }
 
-// All that the reader gives, in at most `turns` reads of at most 4,096 bytes; or notes why the system refused a read, or
-// what the first 16 MB hold in place of what they are read for.
+// All that the reader gives, in at most `turns` reads of at most 4,096 bytes; or notes why the system refused a read,
+// or what the first 16 MB hold in place of what they are read for.
 fn read_whole<R: Read>(
     alloc: Global,
     reader: &mut R,
