@@ -1,5 +1,5 @@
 -- The name of the new file that is made beside another.
-use Rattle.std.specs.Prelude.{◌++◌, ℕ, List, [], codes, if◌then◌else◌, length, nat_le, unwrap_or}
+use Rattle.std.specs.Prelude.{◌++◌, ℕ, Bool, List, [], bytes_eq, codes, if◌then◌else◌, length, nat_le, unwrap_or}
 use Rattle.std.specs.Path.{path_file_name, path_with_file_name}
 
 -- the last name of the path
@@ -9,6 +9,10 @@ last_name_of path = unwrap_or (path_file_name path) []
 -- a name of at most 230 bytes; a longer one is left out
 abbrev pub kept_name : List ℕ → List ℕ
 kept_name name = if nat_le (length name) 230 then name else []
+
+-- the path is `-`, by which people mean standard output
+abbrev pub is_dash : List ℕ → Bool
+is_dash path = bytes_eq path (codes "-")
 
 -- `.NAME.leveled-new`
 abbrev pub first_name : List ℕ → List ℕ

@@ -1,10 +1,11 @@
 //! Why a file can't be opened or made, or what it holds, and the line that says so.
 ghost use Rattle.std.specs.Prelude.{◌≡◌, ℕ, List, OnOk};
 ghost use Rattle.std.specs.Io.KnownBytes.{Appends};
-ghost use Rattle.cli_files.specs.Causes.{Says, cause_line, content_text};
+ghost use Rattle.cli_files.specs.Causes.{Says, cause_line, content_text, no_script_text};
 ghost use Rattle.cli_files.specs.declared.cause.Cause.TheVariants.{OutOfMemory, System};
 
 use crate::content::Content;
+use lump_text::write_shown;
 use std::alloc::{AllocError, Global};
 use std::io::{self, Write};
 
@@ -19,6 +20,10 @@ pub enum Cause {
     NotRegular,
     /// It holds this, and no such thing as was asked for.
     Holds(Content),
+    /// It holds this, and no script.
+    NoScript(Content),
+    /// It is `-`, which names no file here.
+    Dash,
     /// It is neither empty nor a PWAD.
     NoPwad,
     /// It is neither empty nor a picture of a map.
@@ -67,7 +72,19 @@ fn content_text(content: Content) -> &'static str
     }
 }
 
-/// Writes why a path, or something else with a name, was refused, as `  NAME: REASON`.
+// What is said of a file that holds something else than a script.
+fn no_script_text(content: Content) -> &'static str
+    ensures { result.now ≡ no_script_text content }
+{
+    match content {
+        Content::Project => "is a project, no script",
+        Content::Wad => "is a WAD, no script",
+        _ => "is no text",
+    }
+}
+
+/// Writes why a path, or something else with a name, was refused, as `  NAME: REASON`, the name as `write_shown` writes
+/// it.
 ///
 /// # Errors
 ///
@@ -76,7 +93,9 @@ pub fn write_reason<W: Write>(name: &str, reason: &str, writer: &mut W) -> io::R
     ensures { OnOk result (Appends (W.contents writer.old) (W.contents writer.new)
         (cause_line name.now reason.now)) }
 {
-    writeln!(writer, "  {name}: {reason}")
+    writer.write_all(b"  ")?;
+    write_shown(name.as_bytes(), writer)?;
+    writeln!(writer, ": {reason}")
 }
 
 /// Writes why the file at the path can't be opened or made, as `  PATH: REASON`.
@@ -101,6 +120,8 @@ pub fn write_cause<W: Write>(
         Cause::Held => write_reason(path, "is open in another program", writer),
         Cause::NotRegular => write_reason(path, "is no regular file", writer),
         Cause::Holds(content) => write_reason(path, content_text(*content), writer),
+        Cause::NoScript(content) => write_reason(path, no_script_text(*content), writer),
+        Cause::Dash => write_reason(path, "names no file here; ./- does", writer),
         Cause::NoPwad => write_reason(path, "is no PWAD; it is left alone", writer),
         Cause::NoPicture => write_reason(path, "is no picture of a map; it is left alone", writer),
         Cause::Changed => write_reason(path, "has changed meanwhile; it is left alone", writer),

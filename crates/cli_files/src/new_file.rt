@@ -1,6 +1,7 @@
 //! A new file that replaces the file at a path once it is whole.
-ghost use Rattle.std.specs.Prelude.{◌≡◌, None, Some, IfErr, OnOk};
+ghost use Rattle.std.specs.Prelude.{◌≡◌, false, None, Some, IfErr, IfOk, OnOk};
 ghost use Rattle.cli_files.specs.Causes.{IsOfOpeningNew, IsOfPutting};
+ghost use Rattle.cli_files.specs.Names.{is_dash};
 ghost use Rattle.cli_files.specs.Replaced.{WasAllowed};
 
 use crate::Cause;
@@ -147,7 +148,14 @@ fn open_itself<E: Files>(rt: &E, path: &str) -> Result<NewFile<E::File>, Cause>
     })
 }
 
-// Opens a new file for a path. A file that is there must be the one that was noted.
+// Whether the path is `-`, by which people mean standard output.
+fn is_dash(path: &str) -> bool
+    ensures { result ≡ is_dash path.now }
+{
+    path == "-"
+}
+
+// Opens a new file for a path other than `-`. A file that is there must be the one that was noted.
 fn open_for<E: Files>(
     alloc: Global,
     rt: &E,
@@ -156,8 +164,12 @@ fn open_for<E: Files>(
 ) -> Result<NewFile<E::File>, Cause>
 where
     E::File: Hold,
-    ensures { IfErr result (IsOfOpeningNew order.entry.over) }
+    ensures refused { IfErr result (IsOfOpeningNew order.entry.over) }
+    ensures named { IfOk result (λ new. is_dash path.now ≡ false) }
 {
+    if is_dash(path) {
+        return Err(Cause::Dash);
+    }
     match rt.metadata(path) {
         Ok(found) if found.is_file() => {
             open_beside(alloc, rt, path, order, Some(found.permissions()))
@@ -175,8 +187,8 @@ where
 ///
 /// # Errors
 ///
-/// `NoPwad` or `NoPicture` if the file at the path may not be replaced, `Held` if another program is making a new file
-/// for this path, `System`, or `OutOfMemory`.
+/// `Dash` if the path is `-`, `NoPwad` or `NoPicture` if the file at the path may not be replaced, `Held` if another
+/// program is making a new file for this path, `System`, or `OutOfMemory`.
 pub fn open_new<E: Files>(
     alloc: Global,
     rt: &E,
@@ -185,7 +197,8 @@ pub fn open_new<E: Files>(
 ) -> Result<NewFile<E::File>, Cause>
 where
     E::File: Hold,
-    ensures { IfErr result (IsOfOpeningNew (Some form)) }
+    ensures refused { IfErr result (IsOfOpeningNew (Some form)) }
+    ensures named { IfOk result (λ new. is_dash path.now ≡ false) }
 {
     let order = Order {
         purpose: Purpose { form, read: None },
@@ -212,7 +225,8 @@ pub fn open_new_of<E: Files>(
 ) -> Result<NewFile<E::File>, Cause>
 where
     E::File: Hold,
-    ensures { IfErr result (IsOfOpeningNew (Some form)) }
+    ensures refused { IfErr result (IsOfOpeningNew (Some form)) }
+    ensures named { IfOk result (λ new. is_dash path.now ≡ false) }
 {
     let purpose = Purpose {
         form,

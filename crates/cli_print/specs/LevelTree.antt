@@ -1,6 +1,6 @@
 -- The tree that a WAD has of a level, as a picture shows it (docs/COMMANDS.md, "The program").
 use Rattle.std.specs.Prelude.{◌≡◌, ◌⊎◌, ℕ, ◌+◌, ◌-◌, ◌%◌, Bool, if◌then◌else◌, ◌&&◌, ◌==◌, nat_lt, nat_le, List, [], ◌∷◌, length, Option, Some}
-use Rattle.std.specs.List.{list_all}
+use Rattle.std.specs.List.{list_all, sum_by}
 use Rattle.lump_records.specs.Lumps.{records_of}
 use Rattle.lump_records.specs.Records.{node_at, seg_at, sub_at, vertex_at}
 use Rattle.lump_records.specs.declared.records.Node.{Node}
@@ -58,11 +58,15 @@ is_child_among nodes subs c = if nat_lt c 32768 then nat_lt c nodes else nat_lt 
 abbrev pub is_node_among : ℕ → ℕ → Node → Bool
 is_node_among nodes subs n = is_child_among nodes subs n.right && is_child_among nodes subs n.left
 
+-- the subsectors have at most 65,536 segs in all, each counted for each subsector that has it
+abbrev pub has_few_segs : List Sub → Bool
+has_few_segs subs = nat_le (sum_by (λ (s : Sub). s.count) subs) 65536
+
 -- each seg, subsector and node names what is there
 abbrev pub are_among : List Vertex → List Seg → List Sub → List Node → Bool
 are_among vertices segs subs nodes =
     list_all (is_seg_among (length vertices)) segs && list_all (is_sub_among (length segs)) subs
-    && list_all (is_node_among (length nodes) (length subs)) nodes
+    && list_all (is_node_among (length nodes) (length subs)) nodes && has_few_segs subs
 
 -- the first that holds: a lump's length, no subsector, a number of what isn't there
 abbrev pub tree_refusal : List ℕ → LevelEntries → Option TreeFault

@@ -2,7 +2,7 @@
 ghost use Rattle.std.specs.Prelude.{◌≡◌, None, IfErr, IfOk};
 ghost use Rattle.std.specs.List.{list_all};
 ghost use Rattle.wad_levels.specs.Entries.{IsLevelAt};
-ghost use Rattle.cli_print.specs.LevelTree.{IsOwnTree, RefusesTree, are_among, has_whole_lumps, is_child_among, is_node_among, is_seg_among, is_sub_among, tree_refusal};
+ghost use Rattle.cli_print.specs.LevelTree.{IsOwnTree, RefusesTree, are_among, has_few_segs, has_whole_lumps, is_child_among, is_node_among, is_seg_among, is_sub_among, tree_refusal};
 
 use lump_records::{
     Node, Seg, Sub, Vertex, decode_nodes, decode_segs, decode_subs, decode_vertices,
@@ -12,6 +12,9 @@ use std::alloc::Global;
 use wad_file::Wad;
 use wad_levels::{LevelEntries, level_lump};
 
+// The most segs that a picture shows.
+const MOST_SEGS: u32 = 65_536;
+
 /// Why the tree that a WAD has of a level isn't shown.
 #[derive(Clone, Copy)]
 pub enum TreeFault {
@@ -19,7 +22,7 @@ pub enum TreeFault {
     Length,
     /// There is no subsector.
     Missing,
-    /// A seg, a subsector or a node names something that doesn't exist.
+    /// A seg, a subsector or a node names something that doesn't exist, or the subsectors more than 65,536 segs in all.
     Outside,
     OutOfMemory,
 }
@@ -121,13 +124,28 @@ fn are_nodes_among(count: usize, subs: usize, nodes: &[Node]) -> bool
     nodes.iter().all(|node| is_node_among(count, subs, node))
 }
 
-// Whether each seg, subsector and node names only what exists.
+// Whether the subsectors have at most 65,536 segs in all.
+fn has_few_segs(subs: &[Sub]) -> bool
+    ensures { result ≡ has_few_segs subs.now }
+{
+    let mut count: u32 = 0;
+    for sub in subs {
+        count += u32::from(sub.count);
+        if count > MOST_SEGS {
+            return false;
+        }
+    }
+    true
+}
+
+// Whether each seg, subsector and node names only what exists, and no more segs than a picture has room for.
 fn are_among(vertices: &[Vertex], segs: &[Seg], subs: &[Sub], nodes: &[Node]) -> bool
     ensures { result ≡ are_among vertices.now segs.now subs.now nodes.now }
 {
     are_segs_among(vertices.len(), segs)
         && are_subs_among(segs.len(), subs)
         && are_nodes_among(nodes.len(), subs.len(), nodes)
+        && has_few_segs(subs)
 }
 
 /// The tree that a WAD has of a level, and these marks; or why it isn't shown.

@@ -23,6 +23,6 @@ pub use level_picture::draw_level;
 pub use level_remarks::tell_levels_beside;
 pub use limits::TURNS;
 pub use pictures::{Wanted, draw, map_called};
-pub use reading::{read_wad, read_whole};
+pub use reading::{read_script, read_wad};
 pub use remarks::tell_beside;
 pub use shown_names::write_shown;

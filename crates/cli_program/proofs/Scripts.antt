@@ -17,9 +17,8 @@ use Rattle.std.specs.Prelude.{IfOk, IfSome}
 use Rattle.map_script.specs.Scripts.{script_lines}
 use Rattle.map_script.specs.Views.{seen}
 use Rattle.map_script.specs.declared.script.ScriptLine.{ScriptLine}
-use Rattle.run_script.specs.Refused.{TellsStop}
 use Rattle.store_disk.specs.declared.disk.Disk.{Ghosts}
-use Rattle.cli_program.specs.Drawing.{IsDrawnInto, IsHandedOn, IsReadTried, IsScriptTried, TellsRefused, TellsStopFrom}
+use Rattle.cli_program.specs.Drawing.{IsDrawnInto, IsHandedOn, IsReadTried, IsScriptTried, ShowsStop, TellsRefused, TellsStopFrom}
 
 apart : (n : ℕ) → n ≡ 3 → n ≡ 0 → ⊥
 apart n three none = omega arith
@@ -52,7 +51,7 @@ tried_of_file verbose how r s u w (inr (script, input, done)) = inr (script, don
 -- the line was told that was refused
 pub told_refused : {U : Type 0} (told : Result U ScriptError) (script : List ℕ) (lines : List ScriptLine) (drawn : Result (Option Stop) ScriptError) (field : Option Stop)
     (stop : Stop) (line : ScriptLine) (d x : Option (List ℕ)) → drawn ≡ Ok field → field ≡ Some stop → IfOk drawn (λ o. IfSome o (λ s. s.place < length lines))
-    → line ≡ get_or lines stop.place line → TellsStop told script (seen line) stop.code d x → TellsRefused told script lines drawn d x
+    → line ≡ get_or lines stop.place line → ShowsStop told script (seen line) stop.code d x → TellsRefused told script lines drawn d x
 told_refused told script lines drawn field stop line d x whole some inside is said =
     let here : drawn ≡ Ok (Some stop) = whole ∙ ap Ok some in
     let below : stop.place < length lines =

@@ -1,6 +1,7 @@
 -- What the request `draw` does (docs/COMMANDS.md, "Scripts").
-use Rattle.std.specs.Prelude.{◌≡◌, ◌⊎◌, ℕ, Bool, true, false, List, Option, Some, None, Result, Ok, Err, map, slice_get}
-use Rattle.std.specs.Io.KnownBytes.{Consumes, IsAtEnd, Keeps}
+use Rattle.std.specs.Prelude.{◌≡◌, ◌⊎◌, ℕ, Bool, true, false, List, [], Option, Some, None, Result, Ok, Err, map, slice_get}
+use Rattle.std.specs.Io.KnownBytes.{Appends, Consumes, IsAtEnd, Keeps}
+use Rattle.lump_text.specs.Shown.{shown_lines, shown_text}
 use Rattle.store_disk.specs.declared.disk.Disk.{Ghosts}
 use Rattle.map_tables.specs.Projects.{ProjectMaps, empty_project}
 use Rattle.map_script.specs.Scripts.{script_lines}
@@ -63,13 +64,27 @@ IsDrawnOnto facts verbose script how old new writer-old writer-new =
     IsUndone how old new writer-old writer-new
     ⊎ IsScriptDone facts verbose script how old new writer-old writer-new
 
+-- these bytes tell which line of a script was refused, and why, with the script's name as it is shown
+abbrev pub IsStopTold : List ℕ → ℕ × List ℕ → ℕ → List ℕ → Type 0
+IsStopTold script line code told =
+    TellsStop {U = Unit {0}} (Ok tt) (shown_text script) line code (Some []) (Some told)
+
+-- such bytes are shown on standard error line by line; or memory or the writer failed
+abbrev pub ShowsStop : {U : Type 0} → Result U ScriptError → List ℕ → ℕ × List ℕ → ℕ
+    → Option (List ℕ) → Option (List ℕ) → Type 0
+ShowsStop (Ok u) script line code faults-old faults-new =
+    (told : List ℕ) × IsStopTold script line code told
+    × Appends faults-old faults-new (shown_lines told)
+ShowsStop (Err cut.OutOfMemory) script line code faults-old faults-new = Keeps faults-old faults-new
+ShowsStop (Err cut.WriterFailed) script line code faults-old faults-new = Unit {0}
+
 -- this was told of the lines of a script that were drawn so: which one was refused, and why; and
 -- nothing where none was
 abbrev pub TellsRefused : {U : Type 0} → Result U ScriptError → List ℕ → List ScriptLine
     → Result (Option Stop) ScriptError → Option (List ℕ) → Option (List ℕ) → Type 0
 TellsRefused told script lines (Ok (Some stop)) faults-old faults-new =
     (line : ScriptLine) × (slice_get lines stop.place ≡ Some line)
-    × TellsStop told script (seen line) stop.code faults-old faults-new
+    × ShowsStop told script (seen line) stop.code faults-old faults-new
 TellsRefused told script lines (Ok None) faults-old faults-new = Keeps faults-old faults-new
 TellsRefused told script lines (Err e) faults-old faults-new = Keeps faults-old faults-new
 

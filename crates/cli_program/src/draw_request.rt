@@ -1,12 +1,15 @@
 //! The request `draw`: the lines of a script, drawn onto a disk's project, or tried over maps in memory.
-ghost use Rattle.std.specs.Prelude.{◌≡◌, ◌≤◌, ◌<◌, ◌⊎◌, None, Ok, length, IfOk, IfSome, MatchOption};
+ghost use Rattle.std.specs.Prelude.{◌≡◌, ◌≤◌, ◌<◌, ◌⊎◌, None, Ok, length, IfErr, IfOk, IfSome, MatchOption};
 ghost use Rattle.std.specs.Io.KnownBytes.{Keeps};
-ghost use Rattle.cli_program.specs.Drawing.{IsDrawnOnto, IsHandedOn, IsTriedOn, TellsRefused, TellsStopFrom, stop_status};
+ghost use Rattle.cli_program.specs.Drawing.{IsDrawnOnto, IsHandedOn, IsStopTold, IsTriedOn, ShowsStop, TellsRefused, TellsStopFrom, stop_status};
+ghost use Rattle.map_script.specs.Views.{seen};
+ghost use Rattle.run_script.specs.declared.error.ScriptError.TheVariants.{OutOfMemory};
 ghost use Rattle.cli_program.specs.DrawnOver.{IsDrawnOver};
 ghost use Rattle.cli_program.specs.ScriptMaps.{DrawsWhole, IsStoppedFrom};
 
 use crate::over_disk::{HandedBack, not_opened, open_project};
 use cli_refusals::{DONE, Refusal};
+use lump_text::{shown_name, write_shown_lines};
 use map_script::{Names, ScriptLine, script_lines};
 use map_tables::Maps;
 use run_edit::EditorError;
@@ -26,6 +29,52 @@ pub struct Script<'a> {
     pub text: &'a [u8],
     /// Whether the answer to each command is written.
     pub is_verbose: bool,
+}
+
+// What tells which line was refused, and why, with the script's name as it is shown.
+fn stop_told(
+    alloc: Global,
+    maps: &Maps,
+    names: &Names,
+    script: &str,
+    line: &ScriptLine,
+    code: u16,
+) -> Result<Vec<u8>, ScriptError>
+    ensures told { IfOk result (λ told.
+        IsStopTold script.now (seen line.now) code told.items) }
+    ensures memory { IfErr result (λ e. e ≡ OutOfMemory) }
+{
+    let Ok(name) = shown_name(alloc, script.as_bytes()) else {
+        return Err(ScriptError::OutOfMemory);
+    };
+    let mut told = Vec::new(alloc);
+    match write_refused(alloc, maps, names, name.as_str(), line, code, &mut told) {
+        Ok(()) => Ok(told),
+        Err(_) => Err(ScriptError::OutOfMemory),
+    }
+}
+
+// Shows which line was refused and why.
+fn show_stop<F: Write>(
+    alloc: Global,
+    maps: &Maps,
+    names: &Names,
+    script: &str,
+    line: &ScriptLine,
+    code: u16,
+    faults: &mut F,
+) -> Result<(), ScriptError>
+    ensures { ShowsStop result script.now (seen line.now) code
+        (F.contents faults.old) (F.contents faults.new) }
+{
+    let told = match stop_told(alloc, maps, names, script, line, code) {
+        Ok(told) => told,
+        Err(error) => return Err(error),
+    };
+    match write_shown_lines(&told, faults) {
+        Ok(()) => Ok(()),
+        Err(_) => Err(ScriptError::WriterFailed),
+    }
 }
 
 // Writes which line was refused and why, if one was.
@@ -50,7 +99,7 @@ fn say_stop<F: Write>(
     match stopped {
         Some(stop) => {
             let line = &lines[stop.place];
-            write_refused(alloc, maps, names, script, line, stop.code, faults)
+            show_stop(alloc, maps, names, script, line, stop.code, faults)
         }
         None => Ok(()),
     }

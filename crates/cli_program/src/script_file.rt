@@ -1,18 +1,19 @@
 //! Reads scripts, and tries one in a file over the empty project.
-ghost use Rattle.std.specs.Prelude.{◌≡◌, ◌≤◌, false, Ok, IfErr, IfOk};
+ghost use Rattle.std.specs.Prelude.{◌≡◌, ◌≤◌, false, None, Ok, IfErr, IfOk};
 ghost use Rattle.std.specs.Io.KnownBytes.{Keeps};
+ghost use Rattle.cli_print.specs.Reading.{no_script};
 ghost use Rattle.cli_program.specs.Drawing.{IsInput, IsReadTried, IsScriptTried, IsUnreadOf};
 
 use crate::draw_request::{Script, try_script};
 use cli_files::Cause;
-use cli_print::{TURNS, read_whole};
+use cli_print::{TURNS, read_script};
 use cli_refusals::Refusal;
 use run_edit::EditorError;
 use std::alloc::Global;
 use std::fs::{self, Files};
 use std::io::{Read, Write};
 
-/// All that the reader gives, or notes why it can't be read.
+/// All that the reader gives, or notes why it can't be read, or what it is in place of a script.
 pub fn read_all<R: Read>(
     alloc: Global,
     reader: &mut R,
@@ -22,8 +23,9 @@ pub fn read_all<R: Read>(
         (R.remaining reader.new)) }
     ensures refused { IfErr result
         (IsUnreadOf (R.remaining reader.old) (R.remaining reader.new)) }
+    ensures script { IfOk result (λ bytes. no_script bytes.items ≡ None) }
 {
-    match read_whole(alloc, reader, TURNS, why) {
+    match read_script(alloc, reader, TURNS, why) {
         Ok(bytes) => Ok(bytes),
         Err(error) => Err(Refusal::Lines(error)),
     }

@@ -9,6 +9,7 @@ use clap::error::ErrorKind;
 use cli_files::NotedFile;
 use cli_program::perform;
 use cli_words::{CODES, Request, RequestError, request};
+use lump_text::write_shown_lines;
 use std::env::{self, Env, FillError};
 use std::fs::{self, File};
 use std::io::{self, BufWriter, IsTerminal, Read, Write};
@@ -72,6 +73,15 @@ fn after_printing(rt: &HostRuntime, is_printed: bool) -> u8
     REFUSED
 }
 
+// Reports clap's answer to arguments that are no request. It may have any of their bytes.
+fn complain_of_words(rt: &HostRuntime, error: &Error) {
+    let Ok(told) = format!(in rt.alloc(); "{error}") else {
+        complain_of_memory(rt);
+        return;
+    };
+    let _ = write_shown_lines(told.as_bytes(), &mut rt.stderr());
+}
+
 // Prints clap's answer to the arguments, and returns the status. Help and the version are what was asked for, so they
 // go to standard output.
 fn answer_words(rt: &HostRuntime, error: &Error) -> u8
@@ -82,11 +92,11 @@ fn answer_words(rt: &HostRuntime, error: &Error) -> u8
         complain_of_memory(rt);
         return NO_REQUEST;
     }
-    let printed = error.print(rt);
     if error.use_stderr() {
+        complain_of_words(rt, error);
         return NO_REQUEST;
     }
-    after_printing(rt, printed.is_ok())
+    after_printing(rt, error.print(rt).is_ok())
 }
 
 // Prints what arguments that are no request ask for, or why they are none, and returns the status.

@@ -1,7 +1,7 @@
 //! Why a text could not be written.
 ghost use Rattle.std.specs.Prelude.{◌≡◌};
 
-use std::io;
+use std::io::{self, ErrorKind};
 use thiserror::Error;
 
 /// The writer failed: any part of the text may have been written.
@@ -21,5 +21,11 @@ impl WriterFailed {
 impl From<io::Error> for WriterFailed {
     fn from(_error: io::Error) -> WriterFailed {
         WriterFailed
+    }
+}
+
+impl From<WriterFailed> for io::Error {
+    fn from(_failed: WriterFailed) -> io::Error {
+        io::Error::from(ErrorKind::Other)
     }
 }
