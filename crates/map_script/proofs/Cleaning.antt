@@ -4,23 +4,19 @@ use Rattle.std.specs.List.{enumerate_from, filter, join_with_byte, onto_first, s
 use Rattle.std.proofs.lemmas.List.{take_rest}
 use Rattle.std.proofs.lemmas.List.Sums.{take_while-cons}
 use Rattle.std.proofs.lemmas.List.Splits.{slice_split-cons_yes, slice_split-cons_no}
+use Rattle.map_script.specs.Texts.{with_each_word}
 use Rattle.map_script.specs.Words.{is_some_text, text_words}
 use Rattle.map_script.specs.Views.{with_script_line}
 use Rattle.std.specs.Str.Lines.{strip_carriage_return}
 use Rattle.map_script.specs.Scripts.{begins_comment, cleaned, is_line_end, says_something, told_words}
 
--- a text followed by words, each after a space
-abbrev pub with_words : List ℕ → List (List ℕ) → List ℕ
-with_words text [] = text
-with_words text (w ∷ ws) = with_words (text ++ (32 ∷ w)) ws
-
-behind-text : (text w : List ℕ) (ws : List (List ℕ)) → with_words text (w ∷ ws) ≡ text ++ (32 ∷ join_with_byte 32 (w ∷ ws))
+behind-text : (text w : List ℕ) (ws : List (List ℕ)) → with_each_word text (w ∷ ws) ≡ text ++ (32 ∷ join_with_byte 32 (w ∷ ws))
 behind-text text w [] = refl
 behind-text text w (v ∷ vs) =
     behind-text (text ++ (32 ∷ w)) v vs ∙ append_assoc text (32 ∷ w) (32 ∷ join_with_byte 32 (v ∷ vs))
 
 -- words after an empty text are joined, except for the first space
-pub joined : (ws : List (List ℕ)) → drop 1 (with_words [] ws) ≡ join_with_byte 32 ws
+pub joined : (ws : List (List ℕ)) → drop 1 (with_each_word [] ws) ≡ join_with_byte 32 ws
 joined [] = refl
 joined (w ∷ ws) = ap (drop 1) (behind-text [] w ws)
 
@@ -32,10 +28,10 @@ told_in text = take_while (λ w. not (begins_comment w)) (text_words text)
 
 -- the text followed by the words of the rest is the cleaned line
 abbrev pub IsCleaned : List ℕ → List ℕ → List ℕ → Type 0
-IsCleaned text rest line = with_words text (told_in rest) ≡ with_words [] (told_words line)
+IsCleaned text rest line = with_each_word text (told_in rest) ≡ with_each_word [] (told_words line)
 
 pub cleaned_start : (line rest : List ℕ) → rest ≡ strip_carriage_return line → IsCleaned [] rest line
-cleaned_start line rest e = ap (λ r. with_words [] (told_in r)) e
+cleaned_start line rest e = ap (λ r. with_each_word [] (told_in r)) e
 
 told-more : (w : List ℕ) (ws : List (List ℕ)) → begins_comment w ≡ false → take_while (λ v. not (begins_comment v)) (w ∷ ws) ≡ w ∷ take_while (λ v. not (begins_comment v)) ws
 told-more w ws is_none =
@@ -50,18 +46,18 @@ told-none w ws is_one =
 pub cleaned_more : (text rest line w behind new : List ℕ) → text_words rest ≡ w ∷ text_words behind → begins_comment w
     ≡ false → new ≡ text ++ (32 ∷ w) → IsCleaned text rest line → IsCleaned new behind line
 cleaned_more text rest line w behind new e is_none is h =
-    ap (λ t. with_words t (take_while (λ v. not (begins_comment v)) (text_words behind))) is
-    ∙ sym (ap (with_words text) (ap (take_while (λ v. not (begins_comment v))) e ∙ told-more w (text_words behind) is_none))
+    ap (λ t. with_each_word t (take_while (λ v. not (begins_comment v)) (text_words behind))) is
+    ∙ sym (ap (with_each_word text) (ap (take_while (λ v. not (begins_comment v))) e ∙ told-more w (text_words behind) is_none))
     ∙ h
 
 pub cleaned_comment : (text rest line w behind : List ℕ) → text_words rest ≡ w ∷ text_words behind → begins_comment w ≡ true → IsCleaned text rest line → drop 1 text ≡ cleaned line
 cleaned_comment text rest line w behind e is_one h =
-    ap (drop 1) (sym (ap (with_words text) (ap (take_while (λ v. not (begins_comment v))) e ∙ told-none w (text_words behind) is_one)) ∙ h)
+    ap (drop 1) (sym (ap (with_each_word text) (ap (take_while (λ v. not (begins_comment v))) e ∙ told-none w (text_words behind) is_one)) ∙ h)
     ∙ joined (told_words line)
 
 pub cleaned_end : (text rest line : List ℕ) → text_words rest ≡ [] → IsCleaned text rest line → drop 1 text ≡ cleaned line
 cleaned_end text rest line e h =
-    ap (drop 1) (sym (ap (λ ws. with_words text (take_while (λ v. not (begins_comment v)) ws)) e) ∙ h) ∙ joined (told_words line)
+    ap (drop 1) (sym (ap (λ ws. with_each_word text (take_while (λ v. not (begins_comment v)) ws)) e) ∙ h) ∙ joined (told_words line)
 
 -- ---- A script
 

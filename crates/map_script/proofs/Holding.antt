@@ -7,6 +7,7 @@ use Rattle.map_script.specs.Meant.{Meant, meant_by, with_meaning}
 use Rattle.map_script.specs.Scopes.{Scope}
 use Rattle.map_script.specs.declared.meaning.Meaning.{Meaning}
 use Rattle.map_script.specs.declared.names.Held.{Held}
+use Rattle.map_script.specs.declared.placing.Placing.{Placing}
 
 -- ---- Which of them is newest
 
@@ -133,10 +134,10 @@ front_less (h ∷ hs) (suc k) others =
 
 -- ---- All of this
 
-abbrev scope : List (List ℕ × Meant) → ℕ → Scope
-scope names n = record { names = names; held = n }
+abbrev scope : Placing → Bool → List (List ℕ × Meant) → ℕ → Scope
+scope p w names n = record { names = names; held = n; placing = p; is_within = w }
 
 -- names and how many of them are held
-pub scope_is : (names news : List (List ℕ × Meant)) (n m : ℕ) → names ≡ news → n ≡ m
-    → ◌≡◌ {A = Scope} (record { names = names; held = n }) (record { names = news; held = m })
-scope_is names news n m is same = ap₂ (λ (e : List (List ℕ × Meant)) (k : ℕ). scope e k) is same
+pub scope_is : (names news : List (List ℕ × Meant)) (n m : ℕ) (p : Placing) (w : Bool) → names ≡ news → n ≡ m
+    → ◌≡◌ {A = Scope} (record { names = names; held = n; placing = p; is_within = w }) (record { names = news; held = m; placing = p; is_within = w })
+scope_is names news n m p w is same = ap₂ (λ (e : List (List ℕ × Meant)) (k : ℕ). scope p w e k) is same

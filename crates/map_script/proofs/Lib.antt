@@ -1,6 +1,8 @@
 pub mod Cleaning
 pub mod Holding
-pub mod Placing
+pub mod Leasts
+pub mod PlacedTwice
+pub mod PlacedWords
 pub mod Replacing
 pub mod SumCuts
 pub mod SumNumbers

@@ -6,9 +6,9 @@ use Rattle.map_tables.specs.Tables.{Tables}
 use Rattle.map_script.specs.Lines.{in_front, joined_line, words_for}
 use Rattle.map_script.specs.Words.{text_words}
 use Rattle.map_script.specs.declared.error.DrawError.{DrawError}
-use Rattle.map_script.specs.Meant.{Meant}
+use Rattle.map_script.specs.Scopes.{Scope}
 use Rattle.map_script.proofs.Cleaning as cleaning
-use Rattle.map_script.proofs.Cleaning.{with_words}
+use Rattle.map_script.specs.Texts.{with_each_word}
 
 -- ---- Digits
 
@@ -31,7 +31,7 @@ least_fold m v (d ∷ ds) =
 
 -- a text followed by words, each after a space, or the words' error
 abbrev pub behind : List ℕ → Result (List (List ℕ)) DrawError → Result (List ℕ) DrawError
-behind text (Ok ws) = Ok (with_words text ws)
+behind text (Ok ws) = Ok (with_each_word text ws)
 behind text (Err e) = Err e
 
 -- without its first byte
@@ -49,10 +49,10 @@ behind_more text w (Ok ws) = refl
 behind_more text w (Err e) = refl
 
 -- no word is left
-pub replaced_all : (known : List (List ℕ × Meant)) (m : Tables) (text rest command out : List ℕ) → text_words rest ≡ []
-    → behind text (words_for known m (text_words rest)) ≡ behind [] (words_for known m (text_words command)) → out
-    ≡ drop 1 text → joined_line (words_for known m (text_words command)) ≡ Ok out
-replaced_all known m text rest command out e h is =
-    joined_behind (words_for known m (text_words command))
-    ∙ ap unspaced (sym h ∙ ap (λ ws. behind text (words_for known m ws)) e)
+pub replaced_all : (scope : Scope) (m : Tables) (text rest command out : List ℕ) → text_words rest ≡ []
+    → behind text (words_for scope m (text_words rest)) ≡ behind [] (words_for scope m (text_words command)) → out
+    ≡ drop 1 text → joined_line (words_for scope m (text_words command)) ≡ Ok out
+replaced_all scope m text rest command out e h is =
+    joined_behind (words_for scope m (text_words command))
+    ∙ ap unspaced (sym h ∙ ap (λ ws. behind text (words_for scope m ws)) e)
     ∙ ap (λ t. Ok t) (sym is)

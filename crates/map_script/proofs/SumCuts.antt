@@ -4,9 +4,10 @@ use Rattle.std.specs.Prelude.{IfSome, ℤ}
 use Rattle.std.specs.List.{count_by}
 use Rattle.std.proofs.lemmas.List.Sums.{count_by_more_no, count_by_more_yes}
 use Rattle.map_tables.specs.Tables.{Tables}
-use Rattle.map_script.proofs.Placing.{ltb_yes}
+use Rattle.map_script.proofs.Leasts.{ltb_yes}
 use Rattle.map_tables.specs.declared.kind.Kind.{Kind}
-use Rattle.map_script.specs.Meant.{Meant, meant_by}
+use Rattle.map_script.specs.Meant.{meant_by}
+use Rattle.map_script.specs.Scopes.{Scope}
 use Rattle.map_script.specs.Names.{number_for}
 use Rattle.map_script.specs.Cuts.{behind_byte, cut_place, cuts, has_operand, inside, is_sign, last_cut}
 use Rattle.map_script.specs.Reckoned.{item_of_place, negated, number_in_text, reckoned_of}
@@ -53,65 +54,65 @@ cut_within one other text n (Some i) e = cut-below one other text n i (sym e)
 -- ---- Parts
 
 -- no number nests less deep than 0
-pub none_deep : (known : List (List ℕ × Meant)) (m : Tables) (text : List ℕ) → ◌≡◌ {A = Result ℤ DrawError} (Err TooDeep) (sum_value 0 known m text)
+pub none_deep : (scope : Scope) (m : Tables) (text : List ℕ) → ◌≡◌ {A = Result ℤ DrawError} (Err TooDeep) (sum_value 0 scope m text)
 unfolding sum_value
-none_deep known m text = refl
+none_deep scope m text = refl
 
-deeper : (d : ℕ) (known : List (List ℕ × Meant)) (m : Tables) (text : List ℕ) → 0 < d
-    → sum_value d known m text ≡ value_cut_at (λ part. sum_value (d - 1) known m part) known m text (cut_place text)
+deeper : (d : ℕ) (scope : Scope) (m : Tables) (text : List ℕ) → 0 < d
+    → sum_value d scope m text ≡ value_cut_at (λ part. sum_value (d - 1) scope m part) scope m text (cut_place text)
 unfolding sum_value
-deeper zero known m text below = absurd (omega arith)
-deeper (suc d) known m text below =
+deeper zero scope m text below = absurd (omega arith)
+deeper (suc d) scope m text below =
     let less : d ≡ suc d - 1 = omega arith in
-    ap (λ (k : ℕ). value_cut_at (λ part. sum_value k known m part) known m text (cut_place text)) less
+    ap (λ (k : ℕ). value_cut_at (λ part. sum_value k scope m part) scope m text (cut_place text)) less
 
 -- a sum of two parts
-pub two_parts : (d : ℕ) (known : List (List ℕ × Meant)) (m : Tables) (text : List ℕ) (i : ℕ) (x y r : Result ℤ DrawError) → 0 < d
-    → cut_place text ≡ Some i → x ≡ sum_value (d - 1) known m (take i text) → y ≡ sum_value (d - 1) known m (drop (i + 1) text)
-    → r ≡ reckoned_of (get_or text i 0) x y → r ≡ sum_value d known m text
-two_parts d known m text i x y r below at is-x is-y is =
+pub two_parts : (d : ℕ) (scope : Scope) (m : Tables) (text : List ℕ) (i : ℕ) (x y r : Result ℤ DrawError) → 0 < d
+    → cut_place text ≡ Some i → x ≡ sum_value (d - 1) scope m (take i text) → y ≡ sum_value (d - 1) scope m (drop (i + 1) text)
+    → r ≡ reckoned_of (get_or text i 0) x y → r ≡ sum_value d scope m text
+two_parts d scope m text i x y r below at is-x is-y is =
     is ∙ ap₂ (reckoned_of (get_or text i 0)) is-x is-y
-    ∙ sym (deeper d known m text below ∙ ap (value_cut_at (λ part. sum_value (d - 1) known m part) known m text) at)
+    ∙ sym (deeper d scope m text below ∙ ap (value_cut_at (λ part. sum_value (d - 1) scope m part) scope m text) at)
 
 -- a sum in parentheses
-pub one_part : (d : ℕ) (known : List (List ℕ × Meant)) (m : Tables) (text inner : List ℕ) (r : Result ℤ DrawError) → 0 < d
-    → cut_place text ≡ None → inside text ≡ Some inner → r ≡ sum_value (d - 1) known m inner → r ≡ sum_value d known m text
-one_part d known m text inner r below at within is = cc (deeper d known m text below)
+pub one_part : (d : ℕ) (scope : Scope) (m : Tables) (text inner : List ℕ) (r : Result ℤ DrawError) → 0 < d
+    → cut_place text ≡ None → inside text ≡ Some inner → r ≡ sum_value (d - 1) scope m inner → r ≡ sum_value d scope m text
+one_part d scope m text inner r below at within is = cc (deeper d scope m text below)
 
 -- an operand
-pub operand_alone : (d : ℕ) (known : List (List ℕ × Meant)) (m : Tables) (text : List ℕ) (r : Result ℤ DrawError) → 0 < d
-    → cut_place text ≡ None → inside text ≡ None → r ≡ operand_value (λ part. sum_value (d - 1) known m part) known m text
-    → r ≡ sum_value d known m text
-operand_alone d known m text r below at within is = cc (deeper d known m text below)
+pub operand_alone : (d : ℕ) (scope : Scope) (m : Tables) (text : List ℕ) (r : Result ℤ DrawError) → 0 < d
+    → cut_place text ≡ None → inside text ≡ None → r ≡ operand_value (λ part. sum_value (d - 1) scope m part) scope m text
+    → r ≡ sum_value d scope m text
+operand_alone d scope m text r below at within is = cc (deeper d scope m text below)
 
 -- ---- Operands
 
 -- an item at a place
-pub at_place : (part : List ℕ → Result ℤ DrawError) (known : List (List ℕ × Meant)) (m : Tables) (text bs : List ℕ) (k : Kind) (x y : List ℕ)
-    (r : Result ℤ DrawError) → behind_byte 36 text ≡ Some bs → place_of_sums (number_for known m bs) bs ≡ Some (k, x, y)
-    → r ≡ item_of_place m k (part x) (part y) → r ≡ operand_value part known m text
-at_place part known m text bs k x y r begun at is =
+pub at_place : (part : List ℕ → Result ℤ DrawError) (scope : Scope) (m : Tables) (text bs : List ℕ) (k : Kind) (x y : List ℕ)
+    (r : Result ℤ DrawError) → behind_byte 36 text ≡ Some bs → place_of_sums (number_for scope m bs) bs ≡ Some (k, x, y)
+    → r ≡ item_of_place scope.placing m k (part x) (part y) → r ≡ operand_value part scope m text
+at_place part scope m text bs k x y r begun at is =
     is
-    ∙ sym (ap (referred_value part known m text) begun
-    ∙ ap (λ (p : Option (Kind × List ℕ × List ℕ)). place_value part m p (reference_value (meant_by known bs) (number_for known m bs))) at)
+    ∙ sym (ap (referred_value part scope m text) begun
+    ∙ ap (λ (p : Option (Kind × List ℕ × List ℕ)). place_value part scope.placing m p (reference_value (meant_by scope.names bs) (number_for scope m bs))) at)
 
 -- another reference
-pub by_reference : (part : List ℕ → Result ℤ DrawError) (known : List (List ℕ × Meant)) (m : Tables) (text bs : List ℕ) (r : Result ℤ DrawError)
-    → behind_byte 36 text ≡ Some bs → place_of_sums (number_for known m bs) bs ≡ None
-    → r ≡ reference_value (meant_by known bs) (number_for known m bs) → r ≡ operand_value part known m text
-by_reference part known m text bs r begun none is =
+pub by_reference : (part : List ℕ → Result ℤ DrawError) (scope : Scope) (m : Tables) (text bs : List ℕ) (r : Result ℤ DrawError)
+    → behind_byte 36 text ≡ Some bs → place_of_sums (number_for scope m bs) bs ≡ None
+    → r ≡ reference_value (meant_by scope.names bs) (number_for scope m bs) → r ≡ operand_value part scope m text
+by_reference part scope m text bs r begun none is =
     is
-    ∙ sym (ap (referred_value part known m text) begun
-    ∙ ap (λ (p : Option (Kind × List ℕ × List ℕ)). place_value part m p (reference_value (meant_by known bs) (number_for known m bs))) none)
+    ∙ sym (ap (referred_value part scope m text) begun
+    ∙ ap (λ (p : Option (Kind × List ℕ × List ℕ)). place_value part scope.placing m p (reference_value (meant_by scope.names bs) (number_for scope m bs))) none)
 
 -- an operand with a `-` in front
-pub with_minus : (part : List ℕ → Result ℤ DrawError) (known : List (List ℕ × Meant)) (m : Tables) (text bs : List ℕ) (r : Result ℤ DrawError)
-    → behind_byte 36 text ≡ None → behind_byte 45 text ≡ Some bs → r ≡ negated (part bs) → r ≡ operand_value part known m text
-with_minus part known m text bs r none begun is =
-    is ∙ sym (ap (referred_value part known m text) none ∙ ap (number_value part text) begun)
+pub with_minus : (part : List ℕ → Result ℤ DrawError) (scope : Scope) (m : Tables) (text bs : List ℕ) (r : Result ℤ DrawError)
+    → behind_byte 36 text ≡ None → behind_byte 45 text ≡ Some bs → r ≡ negated (part bs) → r ≡ operand_value part scope m text
+with_minus part scope m text bs r none begun is =
+    is ∙ sym (ap (referred_value part scope m text) none ∙ ap (number_value part text) begun)
 
 -- a number
-pub alone : (part : List ℕ → Result ℤ DrawError) (known : List (List ℕ × Meant)) (m : Tables) (text : List ℕ) (r : Result ℤ DrawError)
-    → behind_byte 36 text ≡ None → behind_byte 45 text ≡ None → r ≡ number_in_text text → r ≡ operand_value part known m text
-alone part known m text r none no_minus is =
-    is ∙ sym (ap (referred_value part known m text) none ∙ ap (number_value part text) no_minus)
+pub alone : (part : List ℕ → Result ℤ DrawError) (scope : Scope) (m : Tables) (text : List ℕ) (r : Result ℤ DrawError)
+    → behind_byte 36 text ≡ None → behind_byte 45 text ≡ None → r ≡ number_in_text text → r ≡ operand_value part scope m text
+alone part scope m text r none no_minus is =
+    is ∙ sym (ap (referred_value part scope m text) none ∙ ap (number_value part text) no_minus)

@@ -1,7 +1,7 @@
 -- The numbers of a sum.
 use Rattle.std.proofs.Common.{◌≡◌, ℕ, ◌-◌, ◌<◌, ◌≤◌, ◌^◌, cond, sym, ◌∙◌, ap, arith, Result, Ok, Err}
 use Rattle.std.specs.Prelude.{ℤ, pos, min}
-use Rattle.map_script.proofs.Placing.{ltb_no, ltb_yes}
+use Rattle.map_script.proofs.Leasts.{ltb_no, ltb_yes}
 use Rattle.map_script.specs.Reckoned.{fitted}
 use Rattle.map_script.specs.declared.error.DrawError.{DrawError}
 use Rattle.map_script.specs.declared.error.DrawError.TheVariants.{TooGreat}

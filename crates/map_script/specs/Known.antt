@@ -33,9 +33,14 @@ in_front_of (h ∷ hs) others = in_front_of hs (held_entry h ∷ others)
 abbrev pub known : Names → List (List ℕ × Meant)
 known names = in_front_of names.held.items (map known_entry names.table.entries)
 
--- the same, with how many of them blocks hold
+-- the same, with how many of them blocks hold, where lines are placed, and whether a block is open
 abbrev pub scope_of : Names → Scope
-scope_of names = record { names = known names; held = length names.held.items }
+scope_of names = record {
+  names = known names;
+  held = length names.held.items;
+  placing = names.placing;
+  is_within = names.is_within;
+}
 
 -- ---- Where a name is held
 

@@ -1,3 +1,4 @@
+pub mod Ats
 pub mod Cuts
 pub mod Errors
 pub mod Firsts
@@ -7,6 +8,8 @@ pub mod Loops
 pub mod Meant
 pub mod Names
 pub mod Own
+pub mod Placed
+pub mod Placings
 pub mod Reckoned
 pub mod Scopes
 pub mod Scripts

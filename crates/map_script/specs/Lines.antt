@@ -8,6 +8,7 @@ use Rattle.map_tables.specs.Tables.{Tables}
 use Rattle.map_script.specs.Meant.{Meant, meant_by, worded}
 use Rattle.map_script.specs.Names.{is_no_reference, is_script_name, number_for}
 use Rattle.map_script.specs.Own.{is_own_word}
+use Rattle.map_script.specs.Placed.{placed_line}
 use Rattle.map_script.specs.Scopes.{Scope, with_let}
 use Rattle.map_script.specs.Sums.{sum_value}
 use Rattle.map_script.specs.Texts.{with_word}
@@ -41,32 +42,32 @@ sum_word (Ok n) = Ok (signed_decimal n)
 sum_word (Err e) = Err e
 
 -- the word of a reference, which is this number; a word that is no reference is a sum
-abbrev pub reference_word : List (List ℕ × Meant) → Tables → List ℕ → Result ℕ DrawError
+abbrev pub reference_word : Scope → Tables → List ℕ → Result ℕ DrawError
     → Result (List ℕ) DrawError
-reference_word known m text number =
-    if is_no_reference number then sum_word (sum_value 65 known m text) else number_word number
+reference_word scope m text number =
+    if is_no_reference number then sum_word (sum_value 65 scope m text) else number_word number
 
 -- the words of a name, or else the word of a reference
-abbrev pub named_word : List (List ℕ × Meant) → Tables → List ℕ → Option Meant → Result ℕ DrawError
+abbrev pub named_word : Scope → Tables → List ℕ → Option Meant → Result ℕ DrawError
     → Result (List ℕ) DrawError
-named_word known m text (Some meant) number = Ok meant.words
-named_word known m text None number = reference_word known m text number
+named_word scope m text (Some meant) number = Ok meant.words
+named_word scope m text None number = reference_word scope m text number
 
 -- a word with a `$`, or one that begins with `(`
 abbrev pub is_reckoned : List ℕ → Bool
 is_reckoned text = (slice_index text 0 == 40) || list_any (λ b. b == 36) text
 
 -- what such a word stands for: a name, a reference or a sum
-abbrev pub reckoned_word : List (List ℕ × Meant) → Tables → List ℕ → Result (List ℕ) DrawError
-reckoned_word known m [] = Ok []
-reckoned_word known m (b ∷ bs) =
+abbrev pub reckoned_word : Scope → Tables → List ℕ → Result (List ℕ) DrawError
+reckoned_word scope m [] = Ok []
+reckoned_word scope m (b ∷ bs) =
     if b == 36
-    then named_word known m (b ∷ bs) (meant_by known bs) (number_for known m bs)
-    else sum_word (sum_value 65 known m (b ∷ bs))
+    then named_word scope m (b ∷ bs) (meant_by scope.names bs) (number_for scope m bs)
+    else sum_word (sum_value 65 scope m (b ∷ bs))
 
 -- a word or a VALUE
-abbrev pub value_word : List (List ℕ × Meant) → Tables → List ℕ → Result (List ℕ) DrawError
-value_word known m text = if is_reckoned text then reckoned_word known m text else Ok text
+abbrev pub value_word : Scope → Tables → List ℕ → Result (List ℕ) DrawError
+value_word scope m text = if is_reckoned text then reckoned_word scope m text else Ok text
 
 -- `NAME=` and VALUE of a word whose first `=` is here, or nothing and the whole word
 abbrev pub field_at : List ℕ → Option ℕ → List ℕ × List ℕ
@@ -84,9 +85,9 @@ behind_field front (Ok w) = Ok (front ++ w)
 behind_field front (Err e) = Err e
 
 -- the word that a word stands for
-unfoldable pub word_for : List (List ℕ × Meant) → Tables → List ℕ → Result (List ℕ) DrawError
-word_for known m text =
-    behind_field (field_parts text).0 (value_word known m (field_parts text).1)
+unfoldable pub word_for : Scope → Tables → List ℕ → Result (List ℕ) DrawError
+word_for scope m text =
+    behind_field (field_parts text).0 (value_word scope m (field_parts text).1)
 
 -- a word before others, or the leftmost error
 abbrev pub in_front : Result (List ℕ) DrawError → Result (List (List ℕ)) DrawError
@@ -96,22 +97,24 @@ in_front (Ok w) (Err e) = Err e
 in_front (Ok w) (Ok ws) = Ok (w ∷ ws)
 
 -- the words that the words stand for, or the leftmost error
-abbrev pub words_for : List (List ℕ × Meant) → Tables → List (List ℕ)
+abbrev pub words_for : Scope → Tables → List (List ℕ)
     → Result (List (List ℕ)) DrawError
-words_for known m [] = Ok []
-words_for known m (w ∷ ws) = in_front (word_for known m w) (words_for known m ws)
+words_for scope m [] = Ok []
+words_for scope m (w ∷ ws) = in_front (word_for scope m w) (words_for scope m ws)
 
 -- the words, separated by single spaces
 abbrev pub joined_line : Result (List (List ℕ)) DrawError → Result (List ℕ) DrawError
 joined_line (Ok ws) = Ok (join_with_byte 32 ws)
 joined_line (Err e) = Err e
 
--- the command line that a line stands for over the current map, or its error: that of a bad name
--- comes before that of a bad reference
-abbrev pub line_for : List (List ℕ × Meant) → Tables → List ℕ → Result (List ℕ) DrawError
-line_for known m line =
+-- the command line that a line stands for over the current map, its places placed by the open
+-- blocks; or its error: that of a bad name comes before that of a bad reference
+abbrev pub line_for : Scope → Tables → List ℕ → Result (List ℕ) DrawError
+line_for scope m line =
     if has_good_name (name_in (text_words line))
-    then joined_line (words_for known m (command_words (text_words line))) else Err NotAName
+    then placed_line scope.placing
+    (joined_line (words_for scope m (command_words (text_words line))))
+    else Err NotAName
 
 -- ---- let NAME WORD ..
 
@@ -132,7 +135,7 @@ names_after scope m [] = Err NotALet
 names_after scope m (n ∷ []) = Err NotALet
 names_after scope m (n ∷ w ∷ ws) =
     if is_script_name n && not (is_own_word n)
-    then with_words scope n (joined_line (words_for scope.names m (w ∷ ws))) else Err NotAName
+    then with_words scope n (joined_line (words_for scope m (w ∷ ws))) else Err NotAName
 
 -- ---- How a call ended
 

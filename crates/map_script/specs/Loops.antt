@@ -1,11 +1,12 @@
 -- Lines that open and close the blocks of a script.
-use Rattle.std.specs.Prelude.{ℕ, ℤ, Bool, ◌&&◌, not, if◌then◌else◌, List, [], ◌∷◌, Option, Some, None, Result, Ok, Err, bytes_eq, codes}
+use Rattle.std.specs.Prelude.{ℕ, ℤ, Bool, ◌&&◌, ◌||◌, not, if◌then◌else◌, List, [], ◌∷◌, Option, Some, None, Result, Ok, Err, bytes_eq, codes}
 use Rattle.std.specs.Option.{is_none, is_some}
 use Rattle.map_tables.specs.Tables.{Tables}
+use Rattle.map_script.specs.Ats.{at_words}
 use Rattle.map_script.specs.Lines.{joined_line, name_in, words_for}
-use Rattle.map_script.specs.Meant.{Meant}
 use Rattle.map_script.specs.Names.{is_script_name}
 use Rattle.map_script.specs.Own.{is_own_word}
+use Rattle.map_script.specs.Scopes.{Scope}
 use Rattle.map_script.specs.Reckoned.{number_in_text}
 use Rattle.map_script.specs.Words.{text_words}
 use Rattle.map_script.specs.declared.error.DrawError.{DrawError}
@@ -20,7 +21,7 @@ loop_words (w ∷ ws) =
 
 -- a line opens a block
 abbrev pub opens : List ℕ → Bool
-opens line = is_some (loop_words (text_words line))
+opens line = is_some (loop_words (text_words line)) || is_some (at_words (text_words line))
 
 -- a line closes a block
 abbrev pub closes : List ℕ → Bool
@@ -45,11 +46,11 @@ range_in_text (Err e) = Err e
 range_in_text (Ok text) = range_in (text_words text)
 
 -- the numbers of NAME FROM TO, or what is wrong with it
-abbrev pub loop_range : List (List ℕ × Meant) → Tables → List (List ℕ) → Result Range DrawError
-loop_range known m [] = Err NotALoop
-loop_range known m (name ∷ ws) =
+abbrev pub loop_range : Scope → Tables → List (List ℕ) → Result Range DrawError
+loop_range scope m [] = Err NotALoop
+loop_range scope m (name ∷ ws) =
     if is_script_name name && not (is_own_word name)
-    then range_in_text (joined_line (words_for known m ws)) else Err NotAName
+    then range_in_text (joined_line (words_for scope m ws)) else Err NotAName
 
 -- the name of NAME FROM TO
 abbrev pub loop_name : List (List ℕ) → List ℕ

@@ -7,17 +7,19 @@ use Rattle.map_tables.specs.declared.kind.Kind.{Kind}
 use Rattle.map_tables.specs.declared.kind.Kind.TheVariants as kind
 use Rattle.lump_records.specs.declared.records.Vertex.{Vertex}
 use Rattle.map_commands.specs.Grammar.{kind_of}
-use Rattle.map_commands.specs.Places.{coordinate, place_fault}
-use Rattle.map_commands.specs.Words.{is_numeral, numeral_value}
+use Rattle.map_commands.specs.Words.{is_numeral}
 use Rattle.map_plane.specs.Found.{stands_at}
 use Rattle.map_plane.specs.Meeting.{is_at, is_on}
 use Rattle.map_plane.specs.Nearest.{sector_of_place}
 use Rattle.map_plane.specs.Places.{placed_lines}
 use Rattle.map_script.specs.Firsts.{first_of}
 use Rattle.map_script.specs.Meant.{Meant, meant_by}
+use Rattle.map_script.specs.Placings.{is_coordinate_word, place_of, placed_vertex}
+use Rattle.map_script.specs.Scopes.{Scope}
 use Rattle.map_script.specs.declared.error.DrawError.{DrawError}
 use Rattle.map_script.specs.declared.error.DrawError.TheVariants.{NotAReference, UnknownName, NothingAdded, NumberTooLarge, NothingThere}
 use Rattle.map_script.specs.declared.firsts.Firsts.{Firsts}
+use Rattle.map_script.specs.declared.placing.Placing.{Placing}
 use Rattle.lump_records.specs.Names.{is_digit}
 
 -- a letter, A to Z or a to z
@@ -90,11 +92,11 @@ number_in (Some meant) (Some w) more =
     sum_of (first_named meant.firsts (kind_of w)) (added_by more)
 
 -- the number that these parts of a reference stand for, or what is wrong with the reference
-abbrev pub number_by : List (List ℕ × Meant) → List ℕ → Option (List ℕ) → Option (List ℕ)
+abbrev pub number_by : Scope → List ℕ → Option (List ℕ) → Option (List ℕ)
     → Result ℕ DrawError
-number_by known name kind more =
+number_by scope name kind more =
     if is_script_name name && (is_kind_part kind && is_sum_part more)
-    then number_in (meant_by known name) kind more
+    then number_in (meant_by scope.names name) kind more
     else Err NotAReference
 
 -- ---- KIND(X,Y)
@@ -113,19 +115,17 @@ abbrev pub has_places : Kind → Bool
 has_places kind.Side = false
 has_places _ = true
 
--- whether a number can be one of a place
-abbrev pub is_coordinate_word : List ℕ → Bool
-is_coordinate_word w = is_none (place_fault coordinate w)
+-- the number of the item at a place, if it is one
+abbrev pub number_placed : Tables → Kind → Option Vertex → Option ℕ
+number_placed m k None = None
+number_placed m k (Some place) = number_at_place m k place
 
--- the place that two numbers write
-abbrev pub place_of : List ℕ → List ℕ → Vertex
-place_of x y = record { x = numeral_value x; y = numeral_value y }
-
--- the number of the item at a place that two numbers write: none where no place has them
-abbrev pub number_there : Tables → Kind → List ℕ → List ℕ → Option ℕ
-number_there m k x y =
+-- the number of the item that is where the place that two numbers write is placed: none where no
+-- place has them
+abbrev pub number_there : Placing → Tables → Kind → List ℕ → List ℕ → Option ℕ
+number_there p m k x y =
     if is_coordinate_word x && is_coordinate_word y
-    then number_at_place m k (place_of x y) else None
+    then number_placed m k (placed_vertex p (place_of x y)) else None
 
 -- the number of an item at a place and what is added, or NothingThere
 abbrev pub sum_there : Option ℕ → ℕ → Result ℕ DrawError
@@ -133,34 +133,34 @@ sum_there None more = Err NothingThere
 sum_there (Some n) more = sum_of (Some n) more
 
 -- the number that KIND and X,Y stand for
-abbrev pub number_by_place : Tables → Option Kind → List ℕ → Option (List ℕ) → Option (List ℕ)
-    → Result ℕ DrawError
-number_by_place m None x y more = Err NotAReference
-number_by_place m (Some k) x None more = Err NotAReference
-number_by_place m (Some k) x (Some y) more =
+abbrev pub number_by_place : Placing → Tables → Option Kind → List ℕ → Option (List ℕ)
+    → Option (List ℕ) → Result ℕ DrawError
+number_by_place p m None x y more = Err NotAReference
+number_by_place p m (Some k) x None more = Err NotAReference
+number_by_place p m (Some k) x (Some y) more =
     if has_places k && (is_numeral x && (is_numeral y && is_sum_part more))
-    then sum_there (number_there m k x y) (added_by more)
+    then sum_there (number_there p m k x y) (added_by more)
     else Err NotAReference
 
 -- the same of what stands behind the `(`: X,Y and a `)` that ends it
-abbrev pub number_behind_bracket : Tables → Option Kind → List ℕ × Option (List ℕ)
+abbrev pub number_behind_bracket : Placing → Tables → Option Kind → List ℕ × Option (List ℕ)
     → Option (List ℕ) → Result ℕ DrawError
-number_behind_bracket m k (xy, Some []) more =
-    number_by_place m k (cut 44 xy).0 (cut 44 xy).1 more
-number_behind_bracket m k _ more = Err NotAReference
+number_behind_bracket p m k (xy, Some []) more =
+    number_by_place p m k (cut 44 xy).0 (cut 44 xy).1 more
+number_behind_bracket p m k _ more = Err NotAReference
 
 -- the number that a reference without its +N stands for: with a `(` by its place, else by its name
-abbrev pub number_of_base : List (List ℕ × Meant) → Tables → List ℕ → List ℕ × Option (List ℕ)
+abbrev pub number_of_base : Scope → Tables → List ℕ → List ℕ × Option (List ℕ)
     → Option (List ℕ) → Result ℕ DrawError
-number_of_base known m base (kind, None) more =
-    number_by known (cut 46 base).0 (cut 46 base).1 more
-number_of_base known m base (kind, Some rest) more =
-    number_behind_bracket m (kind_of kind) (cut 41 rest) more
+number_of_base scope m base (kind, None) more =
+    number_by scope (cut 46 base).0 (cut 46 base).1 more
+number_of_base scope m base (kind, Some rest) more =
+    number_behind_bracket scope.placing m (kind_of kind) (cut 41 rest) more
 
 -- the number that a reference stands for, given without its `$`
-abbrev pub number_for : List (List ℕ × Meant) → Tables → List ℕ → Result ℕ DrawError
-number_for known m text =
-    number_of_base known m (cut 43 text).0 (cut 40 (cut 43 text).0) (cut 43 text).1
+abbrev pub number_for : Scope → Tables → List ℕ → Result ℕ DrawError
+number_for scope m text =
+    number_of_base scope m (cut 43 text).0 (cut 40 (cut 43 text).0) (cut 43 text).1
 
 -- whether a text is no reference at all
 abbrev pub is_no_reference : Result ℕ DrawError → Bool

@@ -1,13 +1,13 @@
 -- The numbers of a sum: they have 64 bits, and a quotient is whole.
 use Rattle.std.specs.Prelude.{ℕ, Bool, false, ◌^◌, ◌&&◌, ◌==◌, nat_lt, if◌then◌else◌, List, [], ◌∷◌, ℤ, pos, negsuc, ◌+ℤ◌, ◌-ℤ◌, ◌*ℤ◌, neg_ℤ, Option, Some, None, Result, Ok, Err, int_div, int_rem}
-use Rattle.std.specs.Int.RustNames.{int_le}
-use Rattle.lump_records.specs.declared.limits.TheConstants.{GREATEST_COORDINATE, LEAST_COORDINATE}
 use Rattle.map_tables.specs.Tables.{Tables}
 use Rattle.map_tables.specs.declared.kind.Kind.{Kind}
 use Rattle.map_commands.specs.Words.{is_numeral}
-use Rattle.map_script.specs.Names.{number_at_place, value_of}
+use Rattle.map_script.specs.Names.{number_placed, value_of}
+use Rattle.map_script.specs.Placings.{coordinate_of, placed_vertex}
 use Rattle.map_script.specs.declared.error.DrawError.{DrawError}
 use Rattle.map_script.specs.declared.error.DrawError.TheVariants.{NotANumber, NothingThere, NotWhole, TooGreat}
+use Rattle.map_script.specs.declared.placing.Placing.{Placing}
 
 -- whether a number has 64 bits
 abbrev pub fits_64 : ℤ → Bool
@@ -68,25 +68,21 @@ counted (Err e) = Err e
 
 -- ---- Items at places
 
--- a number as a coordinate, if a place can have it
-abbrev pub coordinate_of : ℤ → Option ℤ
-coordinate_of n =
-    if int_le LEAST_COORDINATE n && int_le n GREATEST_COORDINATE then Some n else None
-
 -- the number of an item that is there
 abbrev pub there : Option ℕ → Result ℤ DrawError
 there None = Err NothingThere
 there (Some n) = Ok (pos n)
 
--- the number of the item of a kind at a place
-abbrev pub item_there : Tables → Kind → Option ℤ → Option ℤ → Result ℤ DrawError
-item_there m k None y = Err NothingThere
-item_there m k (Some x) None = Err NothingThere
-item_there m k (Some x) (Some y) = there (number_at_place m k (record { x = x; y = y }))
+-- the number of the item of a kind where a place is placed
+abbrev pub item_there : Placing → Tables → Kind → Option ℤ → Option ℤ → Result ℤ DrawError
+item_there p m k None y = Err NothingThere
+item_there p m k (Some x) None = Err NothingThere
+item_there p m k (Some x) (Some y) =
+    there (number_placed m k (placed_vertex p (record { x = x; y = y })))
 
 -- the same of two parts, or the error of the leftmost
-abbrev pub item_of_place : Tables → Kind → Result ℤ DrawError → Result ℤ DrawError
+abbrev pub item_of_place : Placing → Tables → Kind → Result ℤ DrawError → Result ℤ DrawError
     → Result ℤ DrawError
-item_of_place m k (Err e) y = Err e
-item_of_place m k (Ok x) (Err e) = Err e
-item_of_place m k (Ok x) (Ok y) = item_there m k (coordinate_of x) (coordinate_of y)
+item_of_place p m k (Err e) y = Err e
+item_of_place p m k (Ok x) (Err e) = Err e
+item_of_place p m k (Ok x) (Ok y) = item_there p m k (coordinate_of x) (coordinate_of y)

@@ -13,6 +13,12 @@ pub enum DrawError {
     NotALet,
     /// Behind `for` stand no name and two numbers.
     NotALoop,
+    /// Behind `at` stand not two or three numbers.
+    NotAnAt,
+    /// The place of an `at` is none of the map.
+    OutsideMap,
+    /// The angle of an `at` is no quarter turn, or two, three or none.
+    NotAQuarter,
     /// In `NAME = COMMAND` the word before `=` is no name, or that of a `let` or a `for` is none or a word of the
     /// language.
     NotAName,
@@ -87,6 +93,9 @@ impl DrawError {
         match self {
             DrawError::NotALet => (1, "a name and one or more words stand behind let"),
             DrawError::NotALoop => (1, "a name and two numbers stand behind for"),
+            DrawError::NotAnAt => (1, "two or three numbers stand behind at"),
+            DrawError::OutsideMap => (2, "at moves 0 0 to a place from -16384 to 16383"),
+            DrawError::NotAQuarter => (2, "ANGLE is 0, 90, 180 or 270"),
             DrawError::NotAName => (20, "a name is a letter, then letters, digits and _"),
             DrawError::NotAReference => (
                 21,
@@ -102,7 +111,7 @@ impl DrawError {
             DrawError::TooDeep => (46, "the parts of the sum nest more than 64 deep"),
             DrawError::OpenBlock => (
                 47,
-                "a for without its end, an end without its for, or blocks more than 64 deep",
+                "a for or an at without its end, an end without them, or blocks more than 64 deep",
             ),
             DrawError::TooManyLines => (48, "the turns of loops draw more than 1000000 lines"),
             DrawError::OutOfMemory => (31, "out of memory"),

@@ -2,6 +2,7 @@
 //! resolved.
 #![tactic(auto)]
 
+mod at_lines;
 mod cutting;
 mod error;
 mod firsts;
@@ -10,6 +11,8 @@ mod looping;
 mod meaning;
 mod names;
 mod own_words;
+mod placed;
+mod placing;
 mod reckoning;
 mod reference;
 mod resolving;
@@ -18,11 +21,13 @@ mod sums;
 mod text;
 mod words;
 
+pub use at_lines::{at_placing, at_words};
 pub use error::DrawError;
 pub use firsts::{Firsts, ItemCounts, Numbers, counts_of, firsts_of, firsts_since};
 pub use letting::{give_words, let_words};
 pub use looping::{Range, closes, loop_name, loop_range, loop_words, opens};
 pub use meaning::Meaning;
-pub use names::Names;
+pub use names::{Mark, Names};
+pub use placing::{Facing, Placing};
 pub use resolving::{defined_name, resolve};
 pub use script::{ScriptLine, script_lines};

@@ -1,10 +1,11 @@
 //! Lines that open and close the blocks of a script: `for NAME FROM TO`, and `end`.
 ghost use Rattle.std.specs.Prelude.{◌≡◌, IfErr, IfOk, MatchOption, None, Ok, Some};
-ghost use Rattle.map_script.specs.Known.{known};
+ghost use Rattle.map_script.specs.Known.{scope_of};
 ghost use Rattle.map_script.specs.Lines.{TellsScriptFault};
 ghost use Rattle.map_script.specs.Loops.{closes, loop_name, loop_range, loop_words, opens, range_in, range_of};
 ghost use Rattle.map_script.specs.Words.{text_words};
 
+use crate::at_lines::at_words;
 use crate::error::DrawError;
 use crate::names::Names;
 use crate::own_words::is_own_word;
@@ -39,7 +40,7 @@ pub fn loop_words(line: &[u8]) -> Option<&[u8]>
 pub fn opens(line: &[u8]) -> bool
     ensures { result ≡ opens line.now }
 {
-    loop_words(line).is_some()
+    loop_words(line).is_some() || at_words(line).is_some()
 }
 
 /// Whether a cleaned line closes a block.
@@ -84,9 +85,9 @@ fn range_in(text: &[u8]) -> Result<Range, DrawError>
 /// `NotALoop` without a name and two words, the error of the first that is no number, or `OutOfMemory`.
 pub fn loop_range(alloc: Global, names: &Names, map: &Map, words: &[u8]) -> Result<Range, DrawError>
     ensures ok { IfOk result (λ range.
-        loop_range (known names.now) map.now.tables (text_words words.now) ≡ Ok range) }
+        loop_range (scope_of names.now) map.now.tables (text_words words.now) ≡ Ok range) }
     ensures fault { IfErr result (λ e. TellsScriptFault e
-        (loop_range (known names.now) map.now.tables (text_words words.now))) }
+        (loop_range (scope_of names.now) map.now.tables (text_words words.now))) }
 {
     let Some((name, behind)) = next_word(words) else {
         return Err(DrawError::NotALoop);

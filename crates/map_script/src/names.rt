@@ -5,6 +5,7 @@ ghost use Rattle.map_script.specs.Known.{newest_of};
 use crate::error::DrawError;
 use crate::firsts::{Firsts, NO_FIRSTS, Numbers};
 use crate::meaning::Meaning;
+use crate::placing::{Placing, UNPLACED};
 use crate::text::copied;
 use indexmap::IndexMap;
 use std::alloc::Global;
@@ -16,12 +17,25 @@ pub struct Held {
     meaning: Meaning,
 }
 
-/// The names defined so far. A name that is defined again stands for what is newer. Names of open blocks, the newest
-/// last, hide those of the script, and go with their block.
+/// What a block leaves as it was when it ends.
+#[derive(Clone, Copy)]
+pub struct Mark {
+    /// How many names blocks held.
+    pub held: usize,
+    /// How lines were placed.
+    pub placing: Placing,
+    /// Whether a block was open.
+    pub is_within: bool,
+}
+
+/// The names defined so far, and how the open blocks place a line. A name that is defined again stands for what is
+/// newer. Names of open blocks, the newest last, hide those of the script, and go with their block.
 #[derive(Drop)]
 pub struct Names {
     table: IndexMap<Vec<u8>, Meaning>,
     held: Vec<Held>,
+    placing: Placing,
+    is_within: bool,
 }
 
 // The index of the newest held name that is this one.
@@ -40,19 +54,21 @@ fn newest_of(held: &[Held], name: &[u8]) -> Option<usize>
 }
 
 impl Names {
-    ghost use Rattle.std.specs.Prelude.{◌≡◌, ℕ, [], length, IfOk, IsOkUnless, OnErr, option_copied};
+    ghost use Rattle.std.specs.Prelude.{◌≡◌, IfOk, IsOkUnless, OnErr, option_copied};
     ghost use Rattle.map_script.specs.declared.error.DrawError.TheVariants.{OutOfMemory};
     ghost use Rattle.map_script.specs.Known.{known, meant_in, scope_of};
     ghost use Rattle.map_script.specs.Meant.{meant_by, numbered, with_meaning, worded};
-    ghost use Rattle.map_script.specs.Scopes.{released, with_given, with_held, with_let, with_turn_name};
+    ghost use Rattle.map_script.specs.Scopes.{first_scope, mark_of, released, with_given, with_block, with_held, with_let, with_turn_name};
 
     /// Without any name. It allocates no memory.
     pub fn new(alloc: Global) -> Self
-        ensures { known result ≡ [] }
+        ensures { scope_of result ≡ first_scope }
     {
         Names {
             table: IndexMap::new(alloc),
             held: Vec::new(alloc),
+            placing: UNPLACED,
+            is_within: false,
         }
     }
 
@@ -113,10 +129,10 @@ impl Names {
         ensures memory { IsOkUnless result OutOfMemory }
         ensures refused { OnErr result (scope_of self.new ≡ scope_of self.old) }
     {
-        if self.held.is_empty() {
-            self.put(alloc, name, words, NO_FIRSTS)
-        } else {
+        if self.is_within {
             self.hold(alloc, name, words)
+        } else {
+            self.put(alloc, name, words, NO_FIRSTS)
         }
     }
 
@@ -152,18 +168,39 @@ impl Names {
         self.hold(alloc, name, digits.as_bytes())
     }
 
-    /// How many names blocks hold.
-    pub fn held_count(&self) -> usize
-        ensures { result ≡ (scope_of self.now).held }
+    /// How many names blocks hold, how lines are placed, and whether a block is open.
+    pub fn mark(&self) -> Mark
+        ensures { result ≡ mark_of (scope_of self.now) }
     {
-        self.held.len()
+        Mark {
+            held: self.held.len(),
+            placing: self.placing,
+            is_within: self.is_within,
+        }
     }
 
-    /// Lets go of the newest held names, but for so many.
-    pub fn release(&mut self, count: usize)
-        ensures { scope_of self.new ≡ released (scope_of self.old) count }
+    /// Lets go of the newest held names, but for as many as at a mark. All else is as there.
+    pub fn release(&mut self, mark: Mark)
+        ensures { scope_of self.new ≡ released (scope_of self.old) mark }
     {
-        self.held.truncate(count);
+        self.held.truncate(mark.held);
+        self.placing = mark.placing;
+        self.is_within = mark.is_within;
+    }
+
+    /// How lines are placed.
+    pub fn placing(&self) -> Placing
+        ensures { result ≡ (scope_of self.now).placing }
+    {
+        self.placing
+    }
+
+    /// A block has been opened, which places lines so.
+    pub fn enter(&mut self, placing: Placing)
+        ensures { scope_of self.new ≡ with_block (scope_of self.old) placing }
+    {
+        self.placing = placing;
+        self.is_within = true;
     }
 
     /// What a name stands for, if it is defined.

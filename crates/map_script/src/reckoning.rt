@@ -1,11 +1,13 @@
 //! The numbers of a sum.
 ghost use Rattle.std.specs.Prelude.{◌≡◌, ◌+ℤ◌, ◌-ℤ◌, ◌*ℤ◌, neg_ℤ, pos};
 ghost use Rattle.map_script.specs.Names.{value_of};
-ghost use Rattle.map_script.specs.Reckoned.{coordinate_of, fitted, item_of_place, item_there, negated, number_in_text, quotient, reckoned, reckoned_of};
+ghost use Rattle.map_script.specs.Placings.{coordinate_of};
+ghost use Rattle.map_script.specs.Reckoned.{fitted, item_of_place, item_there, negated, number_in_text, quotient, reckoned, reckoned_of};
 
 use crate::error::DrawError;
-use crate::reference::{is_whole, number_at_place, value_of};
-use lump_records::{GREATEST_COORDINATE, LEAST_COORDINATE, Vertex};
+use crate::placing::{Placing, coordinate, placed_vertex};
+use crate::reference::{is_whole, number_placed, value_of};
+use lump_records::Vertex;
 use map_tables::{Kind, Map};
 
 // The greatest number of 64 bits with a sign.
@@ -127,42 +129,33 @@ pub fn number_of(text: &[u8]) -> Result<i64, DrawError>
     }
 }
 
-// The coordinate, if a place can have it.
-fn coordinate(n: i64) -> Option<i16>
-    ensures { result ≡ coordinate_of n }
-{
-    if i64::from(LEAST_COORDINATE) <= n && n <= i64::from(GREATEST_COORDINATE) {
-        Some(n as i16)
-    } else {
-        None
-    }
-}
-
-// The number of the item at a place.
-fn item_there(map: &Map, kind: Kind, x: i64, y: i64) -> Result<i64, DrawError>
-    ensures { result ≡ item_there map.now.tables kind (coordinate_of x) (coordinate_of y) }
+// The number of the item where a place is placed.
+fn item_there(placing: Placing, map: &Map, kind: Kind, x: i64, y: i64) -> Result<i64, DrawError>
+    ensures { result
+        ≡ item_there placing map.now.tables kind (coordinate_of x) (coordinate_of y) }
 {
     let (Some(x), Some(y)) = (coordinate(x), coordinate(y)) else {
         return Err(DrawError::NothingThere);
     };
-    match number_at_place(map, kind, Vertex { x, y }) {
+    match number_placed(map, kind, placed_vertex(placing, Vertex { x, y })) {
         Some(number) => Ok(i64::from(number)),
         None => Err(DrawError::NothingThere),
     }
 }
 
-/// The number of the item at a place with these coordinates, or the error of the leftmost.
+/// The number of the item where the place with these coordinates is placed, or the error of the leftmost.
 pub fn item_at(
+    placing: Placing,
     map: &Map,
     kind: Kind,
     x: Result<i64, DrawError>,
     y: Result<i64, DrawError>,
 ) -> Result<i64, DrawError>
-    ensures { result ≡ item_of_place map.now.tables kind x y }
+    ensures { result ≡ item_of_place placing map.now.tables kind x y }
 {
     match (x, y) {
         (Err(error), _) => Err(error),
         (Ok(_), Err(error)) => Err(error),
-        (Ok(x), Ok(y)) => item_there(map, kind, x, y),
+        (Ok(x), Ok(y)) => item_there(placing, map, kind, x, y),
     }
 }

@@ -3,15 +3,16 @@ ghost use Rattle.std.specs.Prelude.{◌≡◌, ◌≤◌, ◌<◌, ◌+◌, ◌-
 ghost use Rattle.std.specs.List.{list_all};
 ghost use Rattle.map_commands.specs.Grammar.{kind_of};
 ghost use Rattle.map_commands.specs.Words.{is_numeral};
-ghost use Rattle.map_script.specs.Known.{known, meant_in};
+ghost use Rattle.map_script.specs.Known.{meant_in, scope_of};
 ghost use Rattle.map_script.specs.Meant.{meant_by};
 ghost use Rattle.lump_records.specs.Names.{is_digit};
-ghost use Rattle.map_script.specs.Names.{added_by, cut, first_named, is_kind_part, is_natural_word, is_letter, is_no_reference, is_script_name, is_script_name_byte, is_sum_part, has_places, number_at_place, number_behind_bracket, number_by, number_by_place, number_for, number_in, number_there, sum_of, sum_there, value_of, words_and};
+ghost use Rattle.map_script.specs.Names.{added_by, cut, first_named, is_kind_part, is_natural_word, is_letter, is_no_reference, is_script_name, is_script_name_byte, is_sum_part, has_places, number_at_place, number_behind_bracket, number_by, number_by_place, number_for, number_in, number_placed, number_there, sum_of, sum_there, value_of, words_and};
 
 use crate::error::DrawError;
 use crate::firsts::Firsts;
 use crate::meaning::Meaning;
 use crate::names::Names;
+use crate::placing::{Placing, placed_vertex};
 use lump_records::{GREATEST_COORDINATE, LEAST_COORDINATE, Vertex};
 use map_commands::{CommandError, kind_in, number_in as number_in_range};
 use map_plane::{line_at, sector_at, thing_at, vertex_at};
@@ -216,7 +217,7 @@ fn number_by(
     kind: Option<&[u8]>,
     more: Option<&[u8]>,
 ) -> Result<u32, DrawError>
-    ensures { result ≡ number_by (known names.now) name.now (option_copied kind.entry)
+    ensures { result ≡ number_by (scope_of names.now) name.now (option_copied kind.entry)
         (option_copied more.entry) }
 {
     if is_name(name) && is_kind_part(kind) && is_sum_part(more) {
@@ -226,8 +227,8 @@ fn number_by(
     }
 }
 
-/// The number of the item that is at a place.
-pub fn number_at_place(map: &Map, kind: Kind, place: Vertex) -> Option<u16>
+// The number of the item that is at a place.
+fn number_at_place(map: &Map, kind: Kind, place: Vertex) -> Option<u16>
     ensures { result ≡ number_at_place map.now.tables kind place }
 {
     match kind {
@@ -249,14 +250,24 @@ pub fn has_places(kind: Kind) -> bool
     }
 }
 
-// The number of the item at the place that two numbers write.
-fn number_there(map: &Map, kind: Kind, x: &[u8], y: &[u8]) -> Option<u16>
-    ensures { result ≡ number_there map.now.tables kind x.now y.now }
+/// The number of the item at a place, if it is one.
+pub fn number_placed(map: &Map, kind: Kind, place: Option<Vertex>) -> Option<u16>
+    ensures { result ≡ number_placed map.now.tables kind place }
+{
+    match place {
+        Some(place) => number_at_place(map, kind, place),
+        None => None,
+    }
+}
+
+// The number of the item where the place that two numbers write is placed.
+fn number_there(placing: Placing, map: &Map, kind: Kind, x: &[u8], y: &[u8]) -> Option<u16>
+    ensures { result ≡ number_there placing map.now.tables kind x.now y.now }
 {
     let x = number_in_range(x, LEAST_COORDINATE, GREATEST_COORDINATE);
     let y = number_in_range(y, LEAST_COORDINATE, GREATEST_COORDINATE);
     match (x, y) {
-        (Ok(x), Ok(y)) => number_at_place(map, kind, Vertex { x, y }),
+        (Ok(x), Ok(y)) => number_placed(map, kind, placed_vertex(placing, Vertex { x, y })),
         _ => None,
     }
 }
@@ -273,20 +284,21 @@ fn sum_there(there: Option<u16>, more: Option<&[u8]>) -> Result<u32, DrawError>
 
 // The number that a kind and a place stand for.
 fn number_by_place(
+    placing: Placing,
     map: &Map,
     kind: Option<Kind>,
     x: &[u8],
     y: Option<&[u8]>,
     more: Option<&[u8]>,
 ) -> Result<u32, DrawError>
-    ensures { result ≡ number_by_place map.now.tables kind x.now (option_copied y.entry)
+    ensures { result ≡ number_by_place placing map.now.tables kind x.now (option_copied y.entry)
         (option_copied more.entry) }
 {
     let (Some(kind), Some(y)) = (kind, y) else {
         return Err(DrawError::NotAReference);
     };
     if has_places(kind) && is_whole(x) && is_whole(y) && is_sum_part(more) {
-        sum_there(number_there(map, kind, x, y), more)
+        sum_there(number_there(placing, map, kind, x, y), more)
     } else {
         Err(DrawError::NotAReference)
     }
@@ -294,18 +306,19 @@ fn number_by_place(
 
 // The number that a kind and what stands behind its bracket stand for.
 fn number_behind_bracket(
+    placing: Placing,
     map: &Map,
     kind: Option<Kind>,
     rest: &[u8],
     more: Option<&[u8]>,
 ) -> Result<u32, DrawError>
-    ensures { result ≡ number_behind_bracket map.now.tables kind (cut 41 rest.now)
+    ensures { result ≡ number_behind_bracket placing map.now.tables kind (cut 41 rest.now)
         (option_copied more.entry) }
 {
     match cut(rest, b')') {
         (place, Some([])) => {
             let (x, y) = cut(place, b',');
-            number_by_place(map, kind, x, y, more)
+            number_by_place(placing, map, kind, x, y, more)
         }
         _ => Err(DrawError::NotAReference),
     }
@@ -313,11 +326,17 @@ fn number_behind_bracket(
 
 /// The number that a reference stands for over the current map; `text` is the reference without its `$`.
 pub fn number_for(names: &Names, map: &Map, text: &[u8]) -> Result<u32, DrawError>
-    ensures { result ≡ number_for (known names.now) map.now.tables text.now }
+    ensures { result ≡ number_for (scope_of names.now) map.now.tables text.now }
 {
     let (base, more) = cut(text, b'+');
     match cut(base, b'(') {
-        (kind, Some(rest)) => number_behind_bracket(map, kind_in(kind), rest, more),
+        (kind, Some(rest)) => number_behind_bracket(
+            names.placing(),
+            map,
+            kind_in(kind),
+            rest,
+            more,
+        ),
         (_, None) => {
             let (name, kind) = cut(base, b'.');
             number_by(names, name, kind, more)

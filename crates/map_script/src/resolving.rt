@@ -2,7 +2,7 @@
 ghost use Rattle.std.specs.Prelude.{◌≡◌, ◌++◌, ◌<◌, ◌==◌, IfErr, IfOk, IsOkUnless, Ok, option_copied, slice_index};
 ghost use Rattle.std.specs.List.{list_any};
 ghost use Rattle.map_script.specs.declared.error.DrawError.TheVariants.{OutOfMemory};
-ghost use Rattle.map_script.specs.Known.{known};
+ghost use Rattle.map_script.specs.Known.{known, scope_of};
 ghost use Rattle.map_script.specs.Lines.{MakesWord, PutsWord, TellsScriptFault, command_words, field_parts, has_good_name, is_reckoned, joined_line, line_for, name_in, named_word, reckoned_word, reference_word, sum_word, word_for, words_for};
 ghost use Rattle.map_script.specs.Meant.{meant_by};
 ghost use Rattle.map_script.specs.Names.{number_for};
@@ -12,6 +12,7 @@ ghost use Rattle.map_script.specs.Words.{text_words};
 
 use crate::error::DrawError;
 use crate::names::Names;
+use crate::placed::placed_text;
 use crate::reference::{is_name, is_no_reference, number_for, place_of};
 use crate::sums::sum_value;
 use crate::text::without_first;
@@ -60,7 +61,7 @@ fn has_good_name(name: Option<&[u8]>) -> bool
 // The number of a sum, as a word.
 fn sum_word(alloc: Global, names: &Names, map: &Map, text: &[u8]) -> Result<Vec<u8>, DrawError>
     ensures { MakesWord result
-        (sum_word (sum_value 65 (known names.now) map.now.tables text.now)) }
+        (sum_word (sum_value 65 (scope_of names.now) map.now.tables text.now)) }
 {
     match sum_value(DEPTH, names, map, text) {
         Ok(number) => {
@@ -79,8 +80,8 @@ fn reference_word(
     text: &[u8],
     reference: &[u8],
 ) -> Result<Vec<u8>, DrawError>
-    ensures { MakesWord result (reference_word (known names.now) map.now.tables text.now
-        (number_for (known names.now) map.now.tables reference.now)) }
+    ensures { MakesWord result (reference_word (scope_of names.now) map.now.tables text.now
+        (number_for (scope_of names.now) map.now.tables reference.now)) }
 {
     let number = number_for(names, map, reference);
     if is_no_reference(number) {
@@ -103,9 +104,9 @@ fn named_word(
     text: &[u8],
     reference: &[u8],
 ) -> Result<Vec<u8>, DrawError>
-    ensures { MakesWord result (named_word (known names.now) map.now.tables text.now
+    ensures { MakesWord result (named_word (scope_of names.now) map.now.tables text.now
         (meant_by (known names.now) reference.now)
-        (number_for (known names.now) map.now.tables reference.now)) }
+        (number_for (scope_of names.now) map.now.tables reference.now)) }
 {
     match names.find(reference) {
         Some(meaning) => Ok(meaning.words.as_slice().to_vec(alloc)?),
@@ -140,7 +141,7 @@ fn begins(text: &[u8], first: u8) -> bool
 
 // What a word with a `$`, or one that begins with `(`, stands for.
 fn reckoned_word(alloc: Global, names: &Names, map: &Map, text: &[u8]) -> Result<Vec<u8>, DrawError>
-    ensures { MakesWord result (reckoned_word (known names.now) map.now.tables text.now) }
+    ensures { MakesWord result (reckoned_word (scope_of names.now) map.now.tables text.now) }
 {
     match text {
         [] => Ok(Vec::new(alloc)),
@@ -180,7 +181,7 @@ fn put_resolved(
     map: &Map,
     word: &[u8],
 ) -> Result<(), DrawError>
-    ensures { PutsWord result (word_for (known names.now) map.now.tables word.now)
+    ensures { PutsWord result (word_for (scope_of names.now) map.now.tables word.now)
         text.old.items text.new.items }
 {
     let (front, value) = field_parts(word);
@@ -202,11 +203,11 @@ pub fn replaced(
     command: &[u8],
 ) -> Result<Vec<u8>, DrawError>
     ensures ok { IfOk result (λ text.
-        joined_line (words_for (known names.now) map.now.tables (text_words command.now))
+        joined_line (words_for (scope_of names.now) map.now.tables (text_words command.now))
         ≡ Ok text.items) }
     ensures fault { IfErr result
         (λ e. TellsScriptFault e
-        (joined_line (words_for (known names.now) map.now.tables (text_words command.now)))) }
+        (joined_line (words_for (scope_of names.now) map.now.tables (text_words command.now)))) }
 {
     let mut text = Vec::new(alloc);
     let mut rest = command;
@@ -219,22 +220,24 @@ pub fn replaced(
     Ok(without_first(text))
 }
 
-/// Resolves a line of a script to a command line: removes `NAME =`, and replaces references by numbers. `map` is the
-/// current map, in which the places of references are looked for.
+/// Resolves a line of a script to a command line: removes `NAME =`, replaces references by numbers, and places places
+/// as the open blocks want it. `map` is the current map, in which the places of references are looked for.
 ///
 /// # Errors
 ///
 /// `NotAName`, or otherwise the error of the leftmost reference that stands for no number; or `OutOfMemory`.
 pub fn resolve(alloc: Global, names: &Names, map: &Map, line: &[u8]) -> Result<Vec<u8>, DrawError>
     ensures ok { IfOk result
-        (λ text. line_for (known names.now) map.now.tables line.now ≡ Ok text.items) }
+        (λ text. line_for (scope_of names.now) map.now.tables line.now ≡ Ok text.items) }
     ensures fault { IfErr result
-        (λ e. TellsScriptFault e (line_for (known names.now) map.now.tables line.now)) }
+        (λ e. TellsScriptFault e (line_for (scope_of names.now) map.now.tables line.now)) }
 {
     let (name, command) = parted(line);
-    if has_good_name(name) {
-        replaced(alloc, names, map, command)
-    } else {
-        Err(DrawError::NotAName)
+    if !has_good_name(name) {
+        return Err(DrawError::NotAName);
+    }
+    match replaced(alloc, names, map, command) {
+        Ok(text) => placed_text(alloc, names.placing(), text),
+        Err(error) => Err(error),
     }
 }

@@ -1,7 +1,7 @@
 //! Sums: numbers, references and words of names, with `+ - * /` and parentheses.
 ghost use Rattle.std.specs.Prelude.{◌≡◌, MatchOption, None, Some, option_copied};
 ghost use Rattle.map_script.specs.Cuts.{behind_byte};
-ghost use Rattle.map_script.specs.Known.{known};
+ghost use Rattle.map_script.specs.Known.{known, scope_of};
 ghost use Rattle.map_script.specs.Meant.{meant_by};
 ghost use Rattle.map_script.specs.Names.{number_for};
 ghost use Rattle.map_script.specs.Sums.{place_of_sums, reference_value, sum_value};
@@ -36,7 +36,7 @@ fn operand_in(text: &[u8]) -> Option<&[u8]>
 // The number of a reference, given without its `$`.
 fn reference_value(names: &Names, map: &Map, reference: &[u8]) -> Result<i64, DrawError>
     ensures { result ≡ reference_value (meant_by (known names.now) reference.now)
-        (number_for (known names.now) map.now.tables reference.now) }
+        (number_for (scope_of names.now) map.now.tables reference.now) }
 {
     match names.find(reference) {
         Some(meaning) => number_of(&meaning.words),
@@ -49,7 +49,7 @@ fn reference_value(names: &Names, map: &Map, reference: &[u8]) -> Result<i64, Dr
 
 // The kind, X and Y of a place that isn't written by two numbers.
 fn place_in<'a>(names: &Names, map: &Map, reference: &'a [u8]) -> Option<(Kind, &'a [u8], &'a [u8])>
-    ensures { let number = number_for (known names.now) map.now.tables reference.now in
+    ensures { let number = number_for (scope_of names.now) map.now.tables reference.now in
         MatchOption result (place_of_sums number reference.now ≡ None)
         (λ p. place_of_sums number reference.now ≡ Some (p.0, p.1.now, p.2.now)) }
 {
@@ -66,7 +66,7 @@ fn place_in<'a>(names: &Names, map: &Map, reference: &'a [u8]) -> Option<(Kind, 
 ///
 /// That of the leftmost reference that stands for no number; or `NotANumber`, `NotWhole`, `TooGreat` or `TooDeep`.
 pub fn sum_value(depth: u32, names: &Names, map: &Map, text: &[u8]) -> Result<i64, DrawError>
-    ensures { result ≡ sum_value depth (known names.now) map.now.tables text.now }
+    ensures { result ≡ sum_value depth (scope_of names.now) map.now.tables text.now }
 {
     if depth == 0 {
         return Err(DrawError::TooDeep);
@@ -84,7 +84,7 @@ pub fn sum_value(depth: u32, names: &Names, map: &Map, text: &[u8]) -> Result<i6
             Some((kind, x, y)) => {
                 let x = sum_value(depth - 1, names, map, x);
                 let y = sum_value(depth - 1, names, map, y);
-                item_at(map, kind, x, y)
+                item_at(names.placing(), map, kind, x, y)
             }
             None => reference_value(names, map, reference),
         },

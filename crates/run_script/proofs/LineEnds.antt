@@ -10,7 +10,7 @@ use Rattle.map_script.specs.Words.{text_words}
 use Rattle.map_script.specs.declared.firsts.Firsts.{Firsts}
 use Rattle.map_script.specs.declared.firsts.Numbers.{Numbers}
 use Rattle.map_script.specs.declared.error.DrawError.{DrawError}
-use Rattle.map_script.specs.declared.error.DrawError.TheVariants.{NotALet, NotALoop, NotAName, NotAReference, UnknownName, NothingAdded, NumberTooLarge, NothingThere, NotANumber, NotWhole, TooGreat, TooDeep, OpenBlock, TooManyLines, OutOfMemory}
+use Rattle.map_script.specs.declared.error.DrawError.TheVariants.{NotALet, NotALoop, NotAnAt, OutsideMap, NotAQuarter, NotAName, NotAReference, UnknownName, NothingAdded, NumberTooLarge, NothingThere, NotANumber, NotWhole, TooGreat, TooDeep, OpenBlock, TooManyLines, OutOfMemory}
 use Rattle.run_script.specs.Lines.{Added, Does, DrawsLet, DrawsLine, DrawsOther, DrawsText, IsTried, Sketch, Stays, asks, sketch_of}
 use Rattle.run_script.specs.Given.{GivesWords, noted_text, with_given_name}
 use Rattle.run_script.specs.declared.canvas.Canvas.{Ghosts}
@@ -23,12 +23,12 @@ Appends-known None bs = tt
 Appends-known (Some xs) bs = refl
 
 faulty : {S : Type 0} (facts : Ghosts S) (verbose : Bool) (line : ℕ × List ℕ) (old new : Sketch S) (e : DrawError)
-    → line_for old.names.names (current_map (facts.maps_in old.canvas)) line.1 ≡ Err e → Stays old new → DrawsOther facts verbose line old (Some (code_of e)) new
+    → line_for old.names (current_map (facts.maps_in old.canvas)) line.1 ≡ Err e → Stays old new → DrawsOther facts verbose line old (Some (code_of e)) new
 faulty facts verbose line old new e is stays = inl (rw is (refl, stays))
 
 -- a line that stands for nothing, or that finds no memory
 pub refused_line : {S : Type 0} (facts : Ghosts S) (verbose : Bool) (line : ℕ × List ℕ) (old new : Sketch S) (e : DrawError)
-    → TellsScriptFault e (line_for old.names.names (current_map (facts.maps_in old.canvas)) line.1) → Stays old new → DrawsOther facts verbose line old (Some (code_of e)) new
+    → TellsScriptFault e (line_for old.names (current_map (facts.maps_in old.canvas)) line.1) → Stays old new → DrawsOther facts verbose line old (Some (code_of e)) new
 refused_line facts verbose line old new NotAName is stays = faulty facts verbose line old new NotAName is stays
 refused_line facts verbose line old new NotAReference is stays = faulty facts verbose line old new NotAReference is stays
 refused_line facts verbose line old new UnknownName is stays = faulty facts verbose line old new UnknownName is stays
@@ -41,13 +41,16 @@ refused_line facts verbose line old new NotWhole is stays = faulty facts verbose
 refused_line facts verbose line old new TooGreat is stays = faulty facts verbose line old new TooGreat is stays
 refused_line facts verbose line old new TooDeep is stays = faulty facts verbose line old new TooDeep is stays
 refused_line facts verbose line old new NotALoop is stays = faulty facts verbose line old new NotALoop is stays
+refused_line facts verbose line old new NotAnAt is stays = faulty facts verbose line old new NotAnAt is stays
+refused_line facts verbose line old new OutsideMap is stays = faulty facts verbose line old new OutsideMap is stays
+refused_line facts verbose line old new NotAQuarter is stays = faulty facts verbose line old new NotAQuarter is stays
 refused_line facts verbose line old new OpenBlock is stays = faulty facts verbose line old new OpenBlock is stays
 refused_line facts verbose line old new TooManyLines is stays = faulty facts verbose line old new TooManyLines is stays
 refused_line facts verbose line old new OutOfMemory is stays = inr (refl, stays)
 
 -- a line that stands for a text
 pub resolved_line : {S : Type 0} (facts : Ghosts S) (verbose : Bool) (line : ℕ × List ℕ) (old new : Sketch S) (refusal : Option ℕ) (text : List ℕ)
-    → line_for old.names.names (current_map (facts.maps_in old.canvas)) line.1 ≡ Ok text → DrawsText facts verbose line old refusal new text → DrawsOther facts verbose line old refusal new
+    → line_for old.names (current_map (facts.maps_in old.canvas)) line.1 ≡ Ok text → DrawsText facts verbose line old refusal new text → DrawsOther facts verbose line old refusal new
 resolved_line facts verbose line old new refusal text is drawn = inl (rw is drawn)
 
 -- its text is a command
@@ -70,7 +73,7 @@ tried_unsaid {S} facts verbose line text old canvas n firsts done adds =
 
 -- how a line ends whose text is a command
 pub ended_line : {S : Type 0} (facts : Ghosts S) (verbose : Bool) (line : ℕ × List ℕ) (old new : Sketch S) (canvas : S) (text : List ℕ)
-    (r : Result (Option ℕ) ScriptError) → line_for old.names.names (current_map (facts.maps_in old.canvas)) line.1 ≡ Ok text → asks facts line.1 text ≡ false
+    (r : Result (Option ℕ) ScriptError) → line_for old.names (current_map (facts.maps_in old.canvas)) line.1 ≡ Ok text → asks facts line.1 text ≡ false
     → MatchResult r (λ refusal. IsTried facts verbose line text old refusal new)
     (λ e. ((e ≡ cut.OutOfMemory) ⊎ (e ≡ cut.WriterFailed)) × ((x : Sketch S) × IsTried facts verbose line text old None x × (canvas ≡ x.canvas)))
     → MatchResult r (λ refusal. DrawsOther facts verbose line old refusal new)
@@ -108,6 +111,9 @@ refused_words facts words canvas old new NotWhole is same = not-given facts word
 refused_words facts words canvas old new TooGreat is same = not-given facts words canvas old new TooGreat is same
 refused_words facts words canvas old new TooDeep is same = not-given facts words canvas old new TooDeep is same
 refused_words facts words canvas old new NotALoop is same = not-given facts words canvas old new NotALoop is same
+refused_words facts words canvas old new NotAnAt is same = not-given facts words canvas old new NotAnAt is same
+refused_words facts words canvas old new OutsideMap is same = not-given facts words canvas old new OutsideMap is same
+refused_words facts words canvas old new NotAQuarter is same = not-given facts words canvas old new NotAQuarter is same
 refused_words facts words canvas old new OpenBlock is same = not-given facts words canvas old new OpenBlock is same
 refused_words facts words canvas old new TooManyLines is same = not-given facts words canvas old new TooManyLines is same
 refused_words facts words canvas old new OutOfMemory is same = inr (refl, same)

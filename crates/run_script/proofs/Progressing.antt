@@ -2,19 +2,21 @@
 use Rattle.std.proofs.Common.{◌≡◌, ◌⊎◌, inl, inr, ℕ, ◌+◌, ◌<◌, ◌≤◌, Bool, List, [], ◌∷◌, ◌++◌, map, length, get_or, refl, ap, ap₂, sym, subst, ◌∙◌, arith, Option, Some, None, Result, Ok, Err}
 use Rattle.std.specs.Prelude.{All, IfNone, IfOk, MatchOption, MatchResult, suc, zero}
 use Rattle.std.proofs.lemmas.List.Elements.{All-nil}
-use Rattle.map_script.specs.Known.{held_entry, in_front_of, known, known_entry, scope_of}
-use Rattle.map_script.specs.Loops.{loop_words}
-use Rattle.map_script.specs.Meant.{Meant}
-use Rattle.map_script.specs.Scopes.{Scope}
+use Rattle.map_tables.specs.Projects.{current_map}
+use Rattle.map_tables.specs.Tables.{Tables}
+use Rattle.map_script.specs.Ats.{at_placing, at_words}
+use Rattle.map_script.specs.Known.{scope_of}
+use Rattle.map_script.specs.Loops.{loop_range, loop_words}
+use Rattle.map_script.specs.Scopes.{Scope, first_scope}
+use Rattle.map_script.specs.declared.error.DrawError.{DrawError}
 use Rattle.map_script.specs.Views.{seen}
 use Rattle.map_script.specs.Words.{text_words}
-use Rattle.map_script.specs.declared.names.Held.{Held}
 use Rattle.map_script.specs.declared.names.Names.{Names}
 use Rattle.map_script.specs.declared.script.ScriptLine.{ScriptLine}
 use Rattle.run_script.specs.Blocks.{lines_between, with_places}
-use Rattle.run_script.specs.Drawn.{Advances, AdvancesOver, ComesTo, DrawsNext, IsCutOff, Progress, at_first, at_position}
+use Rattle.run_script.specs.Drawn.{Advances, AdvancesOver, ComesTo, DrawsNext, IsCutOff, Progress, at_first, at_position, opened_by}
 use Rattle.run_script.specs.Lines.{DrawsLine, Sketch, sketch_of}
-use Rattle.run_script.specs.Turns.{EndsTurn, OpensLoop, Position, Turn}
+use Rattle.run_script.specs.Turns.{EndsTurn, OpensBlock, Position, Turn, after_at, after_loop, after_opening, after_words}
 use Rattle.run_script.specs.Places.{AdvancesTo, IsBlockWithin, IsFirstReading, IsWithinLines, position_of, progress_of, turns_of}
 use Rattle.run_script.specs.declared.canvas.Canvas.{Ghosts}
 use Rattle.run_script.specs.declared.error.ScriptError.{ScriptError}
@@ -31,61 +33,75 @@ any_ok (Err e) p = tt
 
 -- ---- One line, or the end of a turn
 
-at_loop : {S : Type 0} (facts : Ghosts S) (verbose : Bool) (l : ℕ × (ℕ × List ℕ)) (ls : List (ℕ × (ℕ × List ℕ))) (old new : Progress S) (words : List (List ℕ))
-    (refusal : Option ℕ) (at : Position) → loop_words (text_words l.1.1) ≡ Some words
-    → OpensLoop facts words l.0 ls old.sketch.canvas old.sketch.names old.turns refusal at → new ≡ at_position old.sketch at
-    → AdvancesOver facts verbose (l ∷ ls) old refusal new
-at_loop facts verbose l ls old new words refusal at is opens same = rw is (at, opens, same)
+at_block : {S : Type 0} (facts : Ghosts S) (verbose : Bool) (l : ℕ × (ℕ × List ℕ)) (ls : List (ℕ × (ℕ × List ℕ))) (old new : Progress S)
+    (outcome : Result Position DrawError) (refusal : Option ℕ) (at : Position) → opened_by facts l ls old ≡ Some outcome
+    → OpensBlock outcome old.sketch.names refusal at → new ≡ at_position old.sketch at → AdvancesOver facts verbose (l ∷ ls) old refusal new
+at_block facts verbose l ls old new outcome refusal at is opens same = rw is (at, opens, same)
 
 at_other : {S : Type 0} (facts : Ghosts S) (verbose : Bool) (l : ℕ × (ℕ × List ℕ)) (ls : List (ℕ × (ℕ × List ℕ))) (old new : Progress S) (refusal : Option ℕ)
-    → loop_words (text_words l.1.1) ≡ None → DrawsNext facts verbose l.1 ls old refusal new → AdvancesOver facts verbose (l ∷ ls) old refusal new
+    → opened_by facts l ls old ≡ None → DrawsNext facts verbose l.1 ls old refusal new → AdvancesOver facts verbose (l ∷ ls) old refusal new
 at_other facts verbose l ls old new refusal is drawn = rw is drawn
 
--- the line of a loop
-pub met_loop : {S : Type 0} (facts : Ghosts S) (verbose : Bool) (lines : List ScriptLine) (x : ScriptLine) (canvas : S) (names named : Scope) (w : Option (List ℕ))
-    (r s : Reading) (words : List (List ℕ)) (refusal : Option ℕ) → x ≡ get_or lines r.place x → r.place < length lines → r.place < r.until
-    → loop_words (text_words x.text.items) ≡ Some words
-    → OpensLoop facts words r.place (lines_between (with_places (map seen lines)) (r.place + 1) r.until) canvas names (turns_of (with_places (map seen lines)) r.blocks.items) refusal
-    (position_of (with_places (map seen lines)) named s)
+-- the line of a block
+pub met_block : {S : Type 0} (facts : Ghosts S) (verbose : Bool) (lines : List ScriptLine) (x : ScriptLine) (canvas : S) (names named : Scope) (w : Option (List ℕ))
+    (r s : Reading) (outcome : Result Position DrawError) (refusal : Option ℕ) → x ≡ get_or lines r.place x → r.place < length lines → r.place < r.until
+    → after_opening names (current_map (facts.maps_in canvas)) r.place (lines_between (with_places (map seen lines)) (r.place + 1) r.until)
+    (turns_of (with_places (map seen lines)) r.blocks.items) (text_words x.text.items) ≡ Some outcome
+    → OpensBlock outcome names refusal (position_of (with_places (map seen lines)) named s)
     → Advances facts verbose (progress_of (with_places (map seen lines)) canvas names w r) refusal (progress_of (with_places (map seen lines)) canvas named w s)
-met_loop facts verbose lines x canvas names named w r s words refusal is below inside loop opens =
+met_block facts verbose lines x canvas names named w r s outcome refusal is below inside block opens =
     let all : List (ℕ × (ℕ × List ℕ)) = with_places (map seen lines) in
     let old = progress_of all canvas names w r in
     let new = progress_of all canvas named w s in
     subst (λ (left : List (ℕ × (ℕ × List ℕ))). AdvancesOver facts verbose left old refusal new) (sym (next_line lines r.place r.until x is below inside))
-    (at_loop facts verbose (r.place, seen x) (lines_between all (r.place + 1) r.until) old new words refusal (position_of all named s) loop opens refl)
+    (at_block facts verbose (r.place, seen x) (lines_between all (r.place + 1) r.until) old new outcome refusal (position_of all named s) block opens refl)
+
+-- the line of a loop, or of an `at`, leads there
+pub by_loop : (names : Scope) (m : Tables) (place : ℕ) (lines : List (ℕ × (ℕ × List ℕ))) (turns : List Turn) (ws words : List (List ℕ)) → loop_words ws ≡ Some words
+    → after_opening names m place lines turns ws ≡ Some (after_loop names place lines turns words (loop_range names m words))
+by_loop names m place lines turns ws words is = ap (λ (o : Option (List (List ℕ))). after_words names m place lines turns o (at_words ws)) is
+
+pub by_at : (names : Scope) (m : Tables) (place : ℕ) (lines : List (ℕ × (ℕ × List ℕ))) (turns : List Turn) (ws words : List (List ℕ)) → loop_words ws ≡ None
+    → at_words ws ≡ Some words → after_opening names m place lines turns ws ≡ Some (after_at names place lines turns (at_placing names m words))
+by_at names m place lines turns ws words none is = ap₂ (λ (o p : Option (List (List ℕ))). after_words names m place lines turns o p) none is
+
+pub by_none : (names : Scope) (m : Tables) (place : ℕ) (lines : List (ℕ × (ℕ × List ℕ))) (turns : List Turn) (ws : List (List ℕ)) → loop_words ws ≡ None
+    → at_words ws ≡ None → after_opening names m place lines turns ws ≡ None
+by_none names m place lines turns ws none neither = ap₂ (λ (o p : Option (List (List ℕ))). after_words names m place lines turns o p) none neither
 
 -- another line
 drew_other : {S : Type 0} (facts : Ghosts S) (verbose : Bool) (lines : List ScriptLine) (x : ScriptLine) (s : Sketch S) (r : Reading) (new : Progress S)
     (refusal : Option ℕ) → x ≡ get_or lines r.place x → r.place < length lines → r.place < r.until → loop_words (text_words x.text.items) ≡ None
+    → at_words (text_words x.text.items) ≡ None
     → DrawsNext facts verbose (seen x) (lines_between (with_places (map seen lines)) (r.place + 1) r.until) (progress_of (with_places (map seen lines)) s.canvas s.names s.written r)
     refusal new
     → Advances facts verbose (progress_of (with_places (map seen lines)) s.canvas s.names s.written r) refusal new
-drew_other facts verbose lines x s r new refusal is below inside other drawn =
+drew_other facts verbose lines x s r new refusal is below inside other neither drawn =
     let all : List (ℕ × (ℕ × List ℕ)) = with_places (map seen lines) in
     let old = progress_of all s.canvas s.names s.written r in
     subst (λ (left : List (ℕ × (ℕ × List ℕ))). AdvancesOver facts verbose left old refusal new) (sym (next_line lines r.place r.until x is below inside))
-    (at_other facts verbose (r.place, seen x) (lines_between all (r.place + 1) r.until) old new refusal other drawn)
+    (at_other facts verbose (r.place, seen x) (lines_between all (r.place + 1) r.until) old new refusal
+    (by_none s.names (current_map (facts.maps_in s.canvas)) r.place (lines_between all (r.place + 1) r.until) (turns_of all r.blocks.items) (text_words x.text.items) other neither) drawn)
 
 -- how another line ends
 pub ended_next : {S : Type 0} (facts : Ghosts S) (verbose : Bool) (lines : List ScriptLine) (x : ScriptLine) (old new : Sketch S) (canvas : S) (r s : Reading)
     (result : Result (Option ℕ) ScriptError) → x ≡ get_or lines r.place x → r.place < length lines → r.place < r.until → loop_words (text_words x.text.items) ≡ None
-    → s.place ≡ r.place + 1 → s.until ≡ r.until → s.blocks.items ≡ r.blocks.items → new.canvas ≡ canvas
+    → at_words (text_words x.text.items) ≡ None → s.place ≡ r.place + 1 → s.until ≡ r.until → s.blocks.items ≡ r.blocks.items → new.canvas ≡ canvas
     → MatchResult result (λ refusal. DrawsLine facts verbose (seen x) old refusal new)
     (λ e. ((e ≡ cut.OutOfMemory) ⊎ (e ≡ cut.WriterFailed))
     × ((canvas ≡ old.canvas) ⊎ ((y : Sketch S) × DrawsLine facts verbose (seen x) old None y × (canvas ≡ y.canvas))))
     → AdvancesTo facts verbose (progress_of (with_places (map seen lines)) old.canvas old.names old.written r) result
     (progress_of (with_places (map seen lines)) new.canvas new.names new.written s)
-ended_next facts verbose lines x old new canvas r s (Ok refusal) is below inside other place until blocks has drawn =
+ended_next facts verbose lines x old new canvas r s (Ok refusal) is below inside other neither place until blocks has drawn =
     let all : List (ℕ × (ℕ × List ℕ)) = with_places (map seen lines) in
-    drew_other facts verbose lines x old r (progress_of all new.canvas new.names new.written s) refusal is below inside other
+    drew_other facts verbose lines x old r (progress_of all new.canvas new.names new.written s) refusal is below inside other neither
     (drawn, ap₂ (λ (i j : ℕ). lines_between all i j) place until, ap (turns_of all) blocks)
-ended_next facts verbose lines x old new canvas r s (Err e) is below inside other place until blocks has (cause, inl same) = (cause, inl (has ∙ same))
-ended_next {S} facts verbose lines x old new canvas r s (Err e) is below inside other place until blocks has (cause, inr (y, drawn, at)) =
+ended_next facts verbose lines x old new canvas r s (Err e) is below inside other neither place until blocks has (cause, inl same) = (cause, inl (has ∙ same))
+ended_next {S} facts verbose lines x old new canvas r s (Err e) is below inside other neither place until blocks has (cause, inr (y, drawn, at)) =
     let all : List (ℕ × (ℕ × List ℕ)) = with_places (map seen lines) in
     let last : Progress S = record { sketch = y; lines = lines_between all (r.place + 1) r.until; turns = turns_of all r.blocks.items } in (
       cause,
-      inr (last, drew_other facts verbose lines x old r last None is below inside other (drawn, refl, refl), has ∙ at),
+      inr (last, drew_other facts verbose lines x old r last None is below inside other neither (drawn, refl, refl), has ∙ at),
     )
 
 -- ---- Many of them
@@ -107,22 +123,15 @@ cut_off_at facts verbose first mid canvas n reached (inr (last, drawn, at)) =
 
 -- ---- All of them
 
-held_len : (hs : List Held) (others : List (List ℕ × Meant)) → length (in_front_of hs others) ≡ length hs + length others
-held_len [] others = omega arith
-held_len (h ∷ hs) others = held_len hs (held_entry h ∷ others) ∙ omega arith
-
 -- before the first line
-pub at_start : {S : Type 0} (canvas : S) (names : Names) (w : Option (List ℕ)) (lines : List ScriptLine) (r : Reading) → known names ≡ []
+pub at_start : {S : Type 0} (canvas : S) (names : Names) (w : Option (List ℕ)) (lines : List ScriptLine) (r : Reading) → scope_of names ≡ first_scope
     → IsFirstReading (length lines) r → progress_of (with_places (map seen lines)) canvas (scope_of names) w r ≡ at_first canvas w (map seen lines)
 at_start canvas names w lines r none first =
-    let count : length names.held.items + length (map known_entry names.table.entries) ≡ 0 =
-    sym (held_len names.held.items (map known_entry names.table.entries)) ∙ ap length none in
-    let held : length names.held.items ≡ 0 = omega (arith, count) in
     let all : lines_between (with_places (map seen lines)) r.place r.until ≡ with_places (map seen lines) =
     ap₂ (λ (i j : ℕ). lines_between (with_places (map seen lines)) i j) first.place first.until ∙ all_between lines in
     let turns : turns_of (with_places (map seen lines)) r.blocks.items ≡ [] = ap (turns_of (with_places (map seen lines))) first.blocks in
     λ i. record {
-      sketch = record { canvas = canvas; names = record { names = none i; held = held i }; written = w };
+      sketch = record { canvas = canvas; names = none i; written = w };
       lines = all i;
       turns = turns i;
     }

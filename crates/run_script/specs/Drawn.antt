@@ -1,18 +1,20 @@
 -- What a script draws, line by line and turn by turn (docs/COMMANDS.md, "Scripts").
 use Rattle.std.specs.Prelude.{◌≡◌, ◌⊎◌, ℕ, zero, suc, ◌+◌, ◌<◌, ◌≤◌, Bool, List, [], ◌∷◌, ◌++◌, Option, Some, None, Result, Ok, Err, MatchOption, length}
 use Rattle.std.specs.Io.KnownBytes.{Keeps}
-use Rattle.map_script.specs.Loops.{loop_words}
+use Rattle.map_tables.specs.Projects.{current_map}
+use Rattle.map_script.specs.Scopes.{first_scope}
 use Rattle.map_script.specs.Words.{text_words}
 use Rattle.run_script.specs.Blocks.{order_fault, with_places}
 use Rattle.run_script.specs.Lines.{DrawsLine, Sketch, sketch_of}
-use Rattle.run_script.specs.Turns.{EndsTurn, OpensLoop, Position, Turn}
+use Rattle.run_script.specs.Turns.{EndsTurn, OpensBlock, Position, Turn, after_opening}
+use Rattle.map_script.specs.declared.error.DrawError.{DrawError}
 use Rattle.run_script.specs.declared.canvas.Canvas.{Ghosts}
 use Rattle.run_script.specs.declared.drawing.Stop.{Stop}
 use Rattle.run_script.specs.declared.error.ScriptError.{ScriptError}
 use Rattle.run_script.specs.declared.error.ScriptError.TheVariants.{OutOfMemory, WriterFailed}
 
--- how far a script has been drawn: the sketch, the lines to come in the innermost turn, and the turns
--- of the open blocks, the outermost first
+-- how far a script has been drawn: the sketch, the lines to come in the innermost block, and the open
+-- blocks, the outermost first
 pub record Progress (S : Type 0) : Type 0 where
   pub sketch : Sketch S
   pub lines : List (ℕ × (ℕ × List ℕ))
@@ -35,16 +37,23 @@ DrawsNext facts verbose line lines old refusal new =
     DrawsLine facts verbose line old.sketch refusal new.sketch
     × (new.lines ≡ lines) × (new.turns ≡ old.turns)
 
--- the same where these lines are to come in the turn: the first of them, or else its end
+-- where a line leads before these lines, if it opens a block
+abbrev pub opened_by : {S : Type 0} → Ghosts S → ℕ × (ℕ × List ℕ) → List (ℕ × (ℕ × List ℕ))
+    → Progress S → Option (Result Position DrawError)
+opened_by facts l ls old =
+    after_opening old.sketch.names (current_map (facts.maps_in old.sketch.canvas)) l.0 ls old.turns
+    (text_words l.1.1)
+
+-- the same where these lines are to come in the turn: the first of them, which may open a block, or
+-- else its end
 abbrev pub AdvancesOver : {S : Type 0} → Ghosts S → Bool → List (ℕ × (ℕ × List ℕ)) → Progress S
     → Option ℕ → Progress S → Type 0
 AdvancesOver facts verbose [] old refusal new =
     (at : Position) × EndsTurn old.sketch.names old.turns refusal at
     × (new ≡ at_position old.sketch at)
 AdvancesOver facts verbose (l ∷ ls) old refusal new =
-    MatchOption (loop_words (text_words l.1.1)) (DrawsNext facts verbose l.1 ls old refusal new)
-    (λ words. (at : Position)
-    × OpensLoop facts words l.0 ls old.sketch.canvas old.sketch.names old.turns refusal at
+    MatchOption (opened_by facts l ls old) (DrawsNext facts verbose l.1 ls old refusal new)
+    (λ outcome. (at : Position) × OpensBlock outcome old.sketch.names refusal at
     × (new ≡ at_position old.sketch at))
 
 -- one line more was drawn, or one turn more ended; or it was refused with this code
@@ -63,19 +72,20 @@ ComesTo {S = S} facts verbose first (suc n) new =
 abbrev pub IsOver : {S : Type 0} → Progress S → Type 0
 IsOver p = (p.lines ≡ []) × (p.turns ≡ [])
 
--- the place of the next line, if these are to come, or else of the loop whose turn ends next
+-- the place of the next line, if these are to come, or else of the line whose block ends next
 abbrev pub IsAtPlace : List (ℕ × (ℕ × List ℕ)) → List Turn → ℕ → Type 0
 IsAtPlace [] turns place =
     (outer : List Turn) × (turn : Turn) × (turns ≡ outer ++ turn ∷ []) × (place ≡ turn.place)
 IsAtPlace (l ∷ ls) turns place = place ≡ l.0
 
--- how many lines a script may draw, each turn of a loop counted as one: a million more than it has
+-- how many lines a script may draw, each end of a block's turn counted as one: a million more than it
+-- has
 abbrev pub line_limit : List (ℕ × List ℕ) → ℕ
 line_limit lines = 1000000 + length lines
 
 -- the sketch before the first line: no name yet
 abbrev pub first_sketch : {S : Type 0} → S → Option (List ℕ) → Sketch S
-first_sketch canvas written = sketch_of canvas (record { names = []; held = 0 }) written
+first_sketch canvas written = sketch_of canvas first_scope written
 
 -- before the first of these lines
 abbrev pub at_first : {S : Type 0} → S → Option (List ℕ) → List (ℕ × List ℕ) → Progress S

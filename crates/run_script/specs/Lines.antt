@@ -1,4 +1,4 @@
--- What a line of a script draws, one that is no `for` (docs/COMMANDS.md, "Scripts").
+-- What a line of a script draws, one that opens no block (docs/COMMANDS.md, "Scripts").
 use Rattle.std.specs.Prelude.{◌≡◌, ◌⊎◌, ℕ, Bool, true, false, ◌&&◌, not, is_some, List, Option, Some, None, Result, Ok, Err, MatchOption, MatchResult}
 use Rattle.std.specs.Io.KnownBytes.{Appends, Keeps}
 use Rattle.map_tables.specs.Projects.{ProjectMaps, current_map}
@@ -95,7 +95,7 @@ DrawsText facts verbose line old refusal new text =
 abbrev pub DrawsOther : {S : Type 0} → Ghosts S → Bool → ℕ × List ℕ → Sketch S → Option ℕ → Sketch S
     → Type 0
 DrawsOther facts verbose line old refusal new =
-    MatchResult (line_for old.names.names (current_map (facts.maps_in old.canvas)) line.1)
+    MatchResult (line_for old.names (current_map (facts.maps_in old.canvas)) line.1)
     (DrawsText facts verbose line old refusal new)
     (λ fault. (refusal ≡ Some (code_of fault)) × Stays old new)
     ⊎ ((refusal ≡ Some 31) × Stays old new)

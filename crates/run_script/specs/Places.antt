@@ -1,28 +1,33 @@
 -- How far a script has been read, by the places of its lines.
-use Rattle.std.specs.Prelude.{◌≡◌, ◌⊎◌, ℕ, ◌+◌, ◌<◌, ◌≤◌, All, Bool, List, [], ◌∷◌, ◌++◌, map, Option, None, Result, Ok, Err}
-use Rattle.map_script.specs.Loops.{loop_name}
-use Rattle.map_script.specs.Scopes.{Scope, with_turn_name}
-use Rattle.map_script.specs.declared.looping.Range.{Range}
+use Rattle.std.specs.Prelude.{◌≡◌, ◌⊎◌, ℕ, ◌+◌, ◌<◌, ◌≤◌, All, Bool, List, [], ◌∷◌, ◌++◌, map, Option, Some, None, Result, Ok, Err}
+use Rattle.map_script.specs.Scopes.{Scope, with_block}
+use Rattle.map_script.specs.declared.names.Mark.{Mark}
+use Rattle.map_script.specs.declared.placing.Placing.{Placing}
 use Rattle.run_script.specs.Blocks.{lines_between}
 use Rattle.run_script.specs.Drawn.{Advances, Progress}
 use Rattle.run_script.specs.Lines.{sketch_of}
-use Rattle.run_script.specs.Turns.{Position, Turn}
+use Rattle.run_script.specs.Turns.{Counting, Position, Turn, counted_names}
 use Rattle.run_script.specs.declared.canvas.Canvas.{Ghosts}
 use Rattle.run_script.specs.declared.error.ScriptError.{ScriptError}
 use Rattle.run_script.specs.declared.error.ScriptError.TheVariants.{OutOfMemory, WriterFailed}
 use Rattle.run_script.specs.declared.reading.Block.{Block}
+use Rattle.run_script.specs.declared.reading.Count.{Count}
 use Rattle.run_script.specs.declared.reading.Reading.{Reading}
+
+-- what a loop counts, if it is one
+abbrev pub counting_of : Option Count → Option Counting
+counting_of None = None
+counting_of (Some c) =
+    Some (record { name = c.name.items; number = c.number; last = c.last })
 
 -- a block in its turn, among these lines
 abbrev pub turn_of : List (ℕ × (ℕ × List ℕ)) → Block → Turn
 turn_of lines b = record {
-  name = b.name.items;
   place = b.place;
-  number = b.number;
-  last = b.last;
-  body = lines_between lines (b.place + 1) b.end;
-  behind = lines_between lines (b.end + 1) b.until;
-  held = b.held;
+  count = counting_of b.count;
+  body = lines_between lines b.from b.end;
+  behind = lines_between lines b.next b.until;
+  before = b.before;
 }
 
 -- the turns of blocks
@@ -57,24 +62,24 @@ pub record IsWithinLines (count : ℕ) (r : Reading) : Type 0 where
   pub until : r.until ≤ count
   pub blocks : All (IsBlockWithin count) r.blocks.items
 
--- a block was entered at its next turn, of these names, within these
-pub record Enters (names : Scope) (outer : List Block) (b : Block) (named : Scope) (r : Reading)
-    : Type 0 where
-  pub held : named ≡ with_turn_name names b.name.items b.number
-  pub place : r.place ≡ b.place + 1
+-- a block that places lines so was entered at its turn, of these names, within these
+pub record Enters (scope : Scope) (placing : Placing) (outer : List Block) (b : Block)
+    (named : Scope) (r : Reading) : Type 0 where
+  pub names : named ≡ counted_names (with_block scope placing) (counting_of b.count)
+  pub place : r.place ≡ b.from
   pub until : r.until ≡ b.end
   pub blocks : r.blocks.items ≡ outer ++ b ∷ []
 
--- the block of a loop in its first turn: NAME FROM TO at the next line, its `end` at this place
-pub record IsFirstBlock (words : List (List ℕ)) (close : ℕ) (range : Range) (names : Scope)
-    (r : Reading) (b : Block) : Type 0 where
-  pub name : b.name.items ≡ loop_name words
+-- the block that the next line opens, its `end` at this place, what is before it so marked
+pub record IsNextBlock (close : ℕ) (mark : Mark) (counting : Option Counting) (r : Reading)
+    (b : Block) : Type 0 where
   pub place : b.place ≡ r.place
+  pub from : b.from ≡ r.place + 1
   pub end : b.end ≡ close
+  pub next : b.next ≡ close + 1
   pub until : b.until ≡ r.until
-  pub number : b.number ≡ range.from
-  pub last : b.last ≡ range.to
-  pub held : b.held ≡ names.held
+  pub before : b.before ≡ mark
+  pub count : counting_of b.count ≡ counting
 
 -- so many lines are to be read, and no block is open
 pub record IsFirstReading (count : ℕ) (r : Reading) : Type 0 where

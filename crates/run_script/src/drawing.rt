@@ -1,6 +1,7 @@
 //! Draws a script line by line, up to the first refused line.
-ghost use Rattle.std.specs.Prelude.{◌≡◌, ◌⊎◌, ◌<◌, [], length, map, vec_len, IfNone, IfOk, IfSome};
-ghost use Rattle.map_script.specs.Known.{known, scope_of};
+ghost use Rattle.std.specs.Prelude.{◌≡◌, ◌⊎◌, ◌<◌, length, map, vec_len, IfNone, IfOk, IfSome};
+ghost use Rattle.map_script.specs.Known.{scope_of};
+ghost use Rattle.map_script.specs.Scopes.{first_scope};
 ghost use Rattle.map_script.specs.Views.{seen};
 ghost use Rattle.run_script.specs.Blocks.{with_places};
 ghost use Rattle.run_script.specs.Drawn.{EndsFrom, IsScriptDrawn, at_first, line_limit};
@@ -8,10 +9,12 @@ ghost use Rattle.run_script.specs.Places.{AdvancesTo, IsFirstReading, IsWithinLi
 
 use crate::blocks::order_fault;
 use crate::canvas::Canvas;
+use crate::ending::end_turn;
 use crate::error::ScriptError;
 use crate::line::draw_line;
-use crate::reading::{Reading, end_turn, open_loop, place_at_hand};
-use map_script::{DrawError, Names, ScriptLine, loop_words};
+use crate::opening::{open_at, open_loop};
+use crate::reading::{Reading, place_at_hand};
+use map_script::{DrawError, Names, ScriptLine, at_words, loop_words};
 use std::alloc::Global;
 use std::io::Write;
 
@@ -24,7 +27,7 @@ pub struct Stop {
     pub code: u16,
 }
 
-// How many lines more than it has a script may draw, each turn of a loop counted as one.
+// How many lines more than it has a script may draw, each end of a block's turn counted as one.
 const MORE_LINES: usize = 1_000_000;
 
 // How far a script has been read before its first line.
@@ -61,6 +64,9 @@ fn draw_next<C: Canvas, W: Write>(
     let line = &lines[reading.place];
     if let Some(words) = loop_words(&line.text) {
         return Ok(open_loop(alloc, canvas, names, lines, reading, words));
+    }
+    if let Some(words) = at_words(&line.text) {
+        return Ok(open_at(alloc, canvas, names, lines, reading, words));
     }
     reading.place += 1;
     draw_line(alloc, canvas, names, line, is_verbose, writer)
@@ -102,7 +108,7 @@ fn draw_all<C: Canvas, W: Write>(
     is_verbose: bool,
     writer: &mut W,
 ) -> Result<Option<Stop>, ScriptError>
-    requires { known names.old ≡ [] }
+    requires { scope_of names.old ≡ first_scope }
     ensures drawn { EndsFrom C.Canvas is_verbose
         (at_first canvas.old (W.contents writer.old) (map seen lines.now))
         (line_limit (map seen lines.now)) result canvas.new (W.contents writer.new) }
@@ -137,10 +143,12 @@ fn draw_all<C: Canvas, W: Write>(
 }
 
 /// Draws the lines of a script in order onto a project, or onto maps in memory: resolves the names in each line, and
-/// draws it, up to the first refused line. The lines of a loop's block are drawn once for each of its numbers. In a
-/// project each command is on the disk before the next line is resolved. Answers to queries are written; for commands
-/// `NUMBER: ok N` is written if `is_verbose`. `names` must be empty at first; after the call it has the names that the
-/// drawn lines gave. If the blocks are out of order, the script is refused (47), and nothing is drawn.
+/// draws it, up to the first refused line. The lines of a loop's block are drawn once for each of its numbers, those of
+/// an `at` with their places placed. In a project each command is on the disk before the next line is resolved.
+///
+/// Answers to queries are written; for commands `NUMBER: ok N` is written if `is_verbose`. `names` must be empty at
+/// first; after the call it has the names that the drawn lines gave. If the blocks are out of order, the script is
+/// refused (47), and nothing is drawn.
 ///
 /// # Errors
 ///
@@ -153,7 +161,7 @@ pub fn draw<C: Canvas, W: Write>(
     is_verbose: bool,
     writer: &mut W,
 ) -> Result<Option<Stop>, ScriptError>
-    requires { known names.old ≡ [] }
+    requires { scope_of names.old ≡ first_scope }
     ensures drawn { IsScriptDrawn C.Canvas is_verbose (map seen lines.now) result
         canvas.old (W.contents writer.old) canvas.new (W.contents writer.new) }
     ensures place { IfOk result (λ stop. IfSome stop (λ s. s.place < length lines.now)) }

@@ -4,7 +4,9 @@ use crate::forms::{count_words, first_word, form_near, form_of, range_at};
 use crate::shape_reasons::{decide, meant_shape, places_of};
 use lump_records::{Vertex, is_marker, is_name};
 use map_commands::{Command, ProjectCommand, RoomPlan, parse};
-use map_script::{DrawError, Names, ScriptLine, let_words, loop_words, resolve};
+use map_script::{
+    DrawError, Names, ScriptLine, at_placing, at_words, let_words, loop_words, resolve,
+};
 use map_shapes::{ShapeError, ShapeHead, shape_head_in};
 use map_tables::{Edit, Item, Kind, Map, Maps};
 use run_edit::read_query;
@@ -341,6 +343,25 @@ fn reason_of_loop(
     }
 }
 
+// Says what was wrong with the X Y [ANGLE] of an `at`.
+fn reason_of_at(
+    alloc: Global,
+    map: &Map,
+    names: &Names,
+    words: &[u8],
+    code: u16,
+) -> Result<String, AllocError> {
+    match (code, at_placing(alloc, names, map, words)) {
+        (1, _) => format!(in alloc; "this is its form: at X Y [ANGLE]"),
+        (2, Err(error)) => format!(in alloc; "{error}"),
+        _ => match resolve(alloc, names, map, words) {
+            Ok(_) if code == 46 => format!(in alloc; "X, Y and ANGLE are whole numbers"),
+            Ok(_) => says(alloc, code),
+            Err(error) => reason_of_reference(alloc, map, names, words, error),
+        },
+    }
+}
+
 /// Says what was wrong with a line of a script, given the maps as they are and the names of the earlier lines.
 pub fn reason_of(
     alloc: Global,
@@ -357,6 +378,9 @@ pub fn reason_of(
     }
     if let Some(words) = loop_words(&line.text) {
         return reason_of_loop(alloc, maps.current(), names, words, code);
+    }
+    if let Some(words) = at_words(&line.text) {
+        return reason_of_at(alloc, maps.current(), names, words, code);
     }
     let text = match resolve(alloc, names, maps.current(), &line.text) {
         Ok(text) => text,

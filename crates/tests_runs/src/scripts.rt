@@ -66,7 +66,26 @@ const SCRIPTS: &[(&[u8], bool, &[u8], &[u8])] = &[
     (b"for = vertex 0 0\nend = vertex 1 1\nvertex $for+8 $end", true, b"1: ok 0\n2: ok 1\n3: ok 2\n", b""),
     (b"vertex 0 0\nfor i 0 9\nfor j 0 9\nend\ncount", true, b"",
         b"level.txt:2: for i 0 9: 47 OpenBlock\n  \
-        a for without its end, an end without its for, or blocks more than 64 deep\n"),
+        a for or an at without its end, an end without them, or blocks more than 64 deep\n"),
+    (b"at 10 20 90\nthing 1 2 300 1 7\nat -5 0 180\nvertex 3 4\nthing 0 0 270 2 7\nend\n\
+        move-vertex $vertex(-8,-4) 0 0\nend\nhex THINGS\nvertex 14 12\nvertex 10 20", true,
+        b"2: ok 0\n4: ok 0\n5: ok 1\n7: ok 0\n\
+        08 00 15 00 1e 00 01 00 07 00 0a 00 0f 00 b4 00 02 00 07 00\n10: ok 1\n",
+        b"level.txt:11: vertex 10 20: 10 PlaceTaken\n  vertex 0 stands at 10 20\n"),
+    (b"for k 0 3\nat 0 0 90*$k\nroom 16 16 48 32 0 128 FLOOR4_8 CEIL3_5 STARTAN3 160\n\
+        change line $line(32,16) TAG=$k+1\nthing 32 24 0 $k+1 7\nend\nend\n\
+        split $line(-16,32) -16 32\nsplit $line(-32,-16) -32 -16\nsplit $line(16,-32) 16 -32\n\
+        change thing $thing(-24,32) X=1\nchange thing $thing(24,-32) X=2\ncount", false,
+        b"vertices 19 sectors 4 sides 16 lines 19 things 4\n", b""),
+    (b"at 16383 -16384 270\nvertex 0 0\nvertex 0 1\nend", true, b"2: ok 0\n",
+        b"level.txt:3: vertex 0 1: 2 OutOfRange\n  16384 stands for X, a number from -16384 to 16383\n"),
+    (b"at 16383 0\nat 1 0\nend\nend", true, b"",
+        b"level.txt:2: at 1 0: 2 OutOfRange\n  at moves 0 0 to a place from -16384 to 16383\n"),
+    (b"at 1 1\nlet w 8\nvertex $w $w\nend\nat = vertex 1 1\nvertex $at $w", true, b"3: ok 0\n5: ok 1\n",
+        b"level.txt:6: vertex $at $w: 22 UnknownName\n  no line before has this name\n"),
+    (b"vertex 0 0\nat 0 0\ncount", true, b"",
+        b"level.txt:2: at 0 0: 47 OpenBlock\n  \
+        a for or an at without its end, an end without them, or blocks more than 64 deep\n"),
     (b"for i 1 9223372036854775807\nend", true, b"",
         b"level.txt:1: for i 1 9223372036854775807: 48 TooManyLines\n  \
         the turns of loops draw more than 1000000 lines\n"),
@@ -140,7 +159,13 @@ const REFUSED: &[(&[u8], &[u8])] = &[
         b"20 NotAName\n  NAME is a letter, then letters, digits and _, and no word of the language\n"),
     (b"for i 0 $hal\nend", b"22 UnknownName\n  no line before has this name\n"),
     (b"for i 0 x\nend", b"46 BadSum\n  FROM and TO are whole numbers of 64 bits\n"),
-    (b"end", b"47 OpenBlock\n  a for without its end, an end without its for, or blocks more than 64 deep\n"),
+    (b"at 0\nend", b"1 NotACommand\n  this is its form: at X Y [ANGLE]\n"),
+    (b"at 0 0 0 0\nend", b"1 NotACommand\n  this is its form: at X Y [ANGLE]\n"),
+    (b"at 0 -16385\nend", b"2 OutOfRange\n  at moves 0 0 to a place from -16384 to 16383\n"),
+    (b"at 0 0 45\nend", b"2 OutOfRange\n  ANGLE is 0, 90, 180 or 270\n"),
+    (b"at 0 x\nend", b"46 BadSum\n  X, Y and ANGLE are whole numbers\n"),
+    (b"at $v/0 0\nend", b"46 BadSum\n  $v/0: a quotient of the sum isn't a whole number\n"),
+    (b"end", b"47 OpenBlock\n  a for or an at without its end, an end without them, or blocks more than 64 deep\n"),
 ];
 
 // The lines before it.

@@ -1,7 +1,7 @@
 use Rattle.map_plane.specs.Found.{stands_at}
 use Rattle.map_plane.specs.Meeting.{is_at, is_on}
 use Rattle.map_plane.specs.Places.{placed_lines}
-use Rattle.map_script.proofs.Placing.{least_is}
+use Rattle.map_script.proofs.Leasts.{least_is}
 use Rattle.map_script.proofs.reference.number_at_place.Goals as goal
 
 pub returns-in-Vertex : goal.returns-in-Vertex

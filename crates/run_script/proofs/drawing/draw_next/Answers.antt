@@ -1,22 +1,48 @@
 use Rattle.std.proofs.Common.{◌≡◌, ◌∙◌, ◌<◌, ◌+◌, List, None, ℕ, Some, ap, arith, length, map, refl, sym}
+use Rattle.map_tables.specs.Projects.{current_map}
+use Rattle.map_script.specs.Ats.{at_words}
 use Rattle.map_script.specs.Known.{scope_of}
 use Rattle.map_script.specs.Loops.{loop_words}
 use Rattle.map_script.specs.Views.{seen}
 use Rattle.map_script.specs.Words.{text_words}
 use Rattle.map_script.specs.declared.script.ScriptLine.{ScriptLine}
+use Rattle.run_script.specs.Blocks.{lines_between, with_places}
 use Rattle.run_script.specs.Lines.{sketch_of}
-use Rattle.run_script.proofs.Progressing.{any_ok, ended_next, met_loop}
+use Rattle.run_script.specs.Places.{turns_of}
+use Rattle.run_script.proofs.Progressing.{any_ok, by_at, by_loop, ended_next, met_block}
 use Rattle.run_script.proofs.drawing.draw_next.Goals as goal
 
 pub returns-in-Some-clause-advanced : goal.returns-in-Some-clause-advanced
 returns-in-Some-clause-advanced g c =
     let lines : List ScriptLine = c.args.lines.now in
+    let all = with_places (map seen lines) in
     let r = c.args.reading.now in
     let x = c.index-lines-reading.result in
+    let names = scope_of c.args.names.now in
     let below : r.place < length lines = omega (arith, c.requires.within.until, c.requires.some) in
     let loop : loop_words (text_words x.text.items) ≡ Some (text_words c.in-Some.words.now) = ap (λ (l : List ℕ). loop_words (text_words l)) (sym c.deref.ensures.value) ∙ c.in-Some.ensures in
-    met_loop g.C.Canvas c.args.is_verbose lines x c.args.canvas.now (scope_of c.args.names.now) (scope_of c.open_loop.new.names) (g.W.Write.contents c.args.writer.now)
-    r c.open_loop.new.reading (text_words c.in-Some.words.now) c.open_loop.result c.index-lines-reading.is below c.requires.some loop c.open_loop.ensures.opened
+    met_block g.C.Canvas c.args.is_verbose lines x c.args.canvas.now names (scope_of c.open_loop.new.names) (g.W.Write.contents c.args.writer.now)
+    r c.open_loop.new.reading _ c.open_loop.result c.index-lines-reading.is below c.requires.some
+    (by_loop names (current_map (g.C.Canvas.maps_in c.args.canvas.now)) r.place (lines_between all (r.place + 1) r.until) (turns_of all r.blocks.items)
+    (text_words x.text.items) (text_words c.in-Some.words.now) loop)
+    c.open_loop.ensures.opened
+
+pub returns-in-Some-at_words-clause-advanced : goal.returns-in-Some-at_words-clause-advanced
+returns-in-Some-at_words-clause-advanced g c =
+    let lines : List ScriptLine = c.args.lines.now in
+    let all = with_places (map seen lines) in
+    let r = c.args.reading.now in
+    let x = c.index-lines-reading.result in
+    let names = scope_of c.args.names.now in
+    let below : r.place < length lines = omega (arith, c.requires.within.until, c.requires.some) in
+    let other : loop_words (text_words x.text.items) ≡ None = ap (λ (l : List ℕ). loop_words (text_words l)) (sym c.deref.ensures.value) ∙ c.in_default.ensures in
+    let at : at_words (text_words x.text.items) ≡ Some (text_words c.in-Some-at_words.words.now) =
+    ap (λ (l : List ℕ). at_words (text_words l)) (sym c.deref-2.ensures.value) ∙ c.in-Some-at_words.ensures in
+    met_block g.C.Canvas c.args.is_verbose lines x c.args.canvas.now names (scope_of c.open_at.new.names) (g.W.Write.contents c.args.writer.now)
+    r c.open_at.new.reading _ c.open_at.result c.index-lines-reading.is below c.requires.some
+    (by_at names (current_map (g.C.Canvas.maps_in c.args.canvas.now)) r.place (lines_between all (r.place + 1) r.until) (turns_of all r.blocks.items)
+    (text_words x.text.items) (text_words c.in-Some-at_words.words.now) other at)
+    c.open_at.ensures.opened
 
 pub returns-clause-within : goal.returns-clause-within
 returns-clause-within g c =
@@ -30,6 +56,7 @@ returns-clause-advanced g c =
     let x = c.index-lines-reading.result in
     let below : r.place < length lines = omega (arith, c.requires.within.until, c.requires.some) in
     let other : loop_words (text_words x.text.items) ≡ None = ap (λ (l : List ℕ). loop_words (text_words l)) (sym c.deref.ensures.value) ∙ c.in_default.ensures in
+    let neither : at_words (text_words x.text.items) ≡ None = ap (λ (l : List ℕ). at_words (text_words l)) (sym c.deref-2.ensures.value) ∙ c.in_default-at_words.ensures in
     ended_next g.C.Canvas c.args.is_verbose lines x (sketch_of c.args.canvas.now (scope_of c.args.names.now) (g.W.Write.contents c.args.writer.now))
     (sketch_of c.draw_line.new.canvas (scope_of c.draw_line.new.names) (g.W.Write.contents c.draw_line.new.writer)) c.draw_line.new.canvas r (record { place = r.place + 1; until = r.until; blocks = r.blocks }) c.draw_line.result
-    c.index-lines-reading.is below c.requires.some other refl refl refl refl c.draw_line.ensures
+    c.index-lines-reading.is below c.requires.some other neither refl refl refl refl c.draw_line.ensures

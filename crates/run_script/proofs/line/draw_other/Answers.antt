@@ -1,7 +1,7 @@
 use Rattle.std.proofs.Common.{◌≡◌, ◌∙◌, List, ℕ, Ok, false, refl, subst, sym, ap, ap₂}
 use Rattle.std.specs.Prelude.{Some}
 use Rattle.std.proofs.KnownBytes.{Keeps-refl}
-use Rattle.map_script.specs.Known.{known, scope_of}
+use Rattle.map_script.specs.Known.{scope_of}
 use Rattle.map_script.specs.Lines.{TellsScriptFault, line_for}
 use Rattle.map_script.specs.Views.{seen}
 use Rattle.run_script.specs.Lines.{DrawsOther, asks, sketch_of}
@@ -15,15 +15,15 @@ pub returns-in-Err : goal.returns-in-Err
 returns-in-Err g c =
     let old = sketch_of c.args.canvas.now (scope_of c.args.names.now) (g.W.Write.contents c.args.writer.now) in
     let same = c.current.ensures.tables ∙ current_is c.maps.result.now ∙ ap current_map c.maps.ensures in
-    let told = subst (λ (l : List ℕ). TellsScriptFault c.in-Err.error (line_for (known c.args.names.now) (current_map (g.C.Canvas.maps_in c.args.canvas.now)) l)) c.deref.ensures.value
-    (subst (λ (m : Tables). TellsScriptFault c.in-Err.error (line_for (known c.args.names.now) m c.deref.result.now)) same c.in-Err.ensures.fault) in
+    let told = subst (λ (l : List ℕ). TellsScriptFault c.in-Err.error (line_for (scope_of c.args.names.now) (current_map (g.C.Canvas.maps_in c.args.canvas.now)) l)) c.deref.ensures.value
+    (subst (λ (m : Tables). TellsScriptFault c.in-Err.error (line_for (scope_of c.args.names.now) m c.deref.result.now)) same c.in-Err.ensures.fault) in
     subst (λ (n : ℕ). DrawsOther g.C.Canvas c.args.is_verbose (seen c.args.line.now) old (Some n) old) (sym c.code.ensures)
     (refused_line g.C.Canvas c.args.is_verbose (seen c.args.line.now) old old c.in-Err.error told
     (record { canvas = refl; names = refl; written = Keeps-refl (g.W.Write.contents c.args.writer.now) }))
 
 pub returns : goal.returns
 returns g c =
-    let names = known c.args.names.now in
+    let names = scope_of c.args.names.now in
     let old = sketch_of c.args.canvas.now (scope_of c.args.names.now) (g.W.Write.contents c.args.writer.now) in
     let new = sketch_of c.try_command.new.canvas (scope_of c.try_command.new.names) (g.W.Write.contents c.try_command.new.writer) in
     let line : List ℕ = c.args.line.now.text.items in

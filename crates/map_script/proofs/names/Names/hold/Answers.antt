@@ -12,7 +12,7 @@ returns-clause-ok c =
     let hs : List Held = names.held.items in
     let others : List (List ℕ × Meant) = map known_entry names.table.entries in
     let h : Held = record { name = c.in_ok-name.name; meaning = record { words = c.in_ok-words.words; firsts = no_firsts } } in
-    scope_is _ _ _ _
+    scope_is _ _ _ _ _ _
     (ap (λ (gs : List Held). in_front_of gs others) c.in_ok-push.ensures.items ∙ front_more hs h others
     ∙ ap₂ (λ (n w : List ℕ). (n, worded w) ∷ known names) c.in_ok-name.ensures.ok c.in_ok-words.ensures.ok)
     (ap length c.in_ok-push.ensures.items ∙ length-append hs (h ∷ []))

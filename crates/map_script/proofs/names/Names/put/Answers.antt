@@ -18,7 +18,7 @@ returns-in-Some-clause-ok c =
     let h : Held = c.index_mut.result.now in
     let here : newest_of hs name ≡ Some c.in-Some.i =
     ap (λ (hs : List Held). newest_of hs name) (sym c.deref.ensures.value) ∙ sym c.in-Some.ensures.newest in
-    scope_is _ _ _ _
+    scope_is _ _ _ _ _ _
     (sym (put_held hs h m name others c.in-Some.i here c.index_mut.ensures.value)
     ∙ ap (λ (w : List ℕ). with_meaning (known names) name (record { words = w; firsts = c.args.firsts })) c.in_ok-words.ensures.ok)
     (length-set hs c.in-Some.i (record { name = h.name; meaning = m }))
@@ -33,7 +33,7 @@ returns-in-Ok-clause-ok c =
     let words : c.in_ok-words.words.items ≡ c.args.words.now = c.in_ok-words.ensures.ok in
     let none : newest_of hs c.in_ok-name.name.items ≡ None =
     ap₂ (λ (hs : List Held) (n : List ℕ). newest_of hs n) (sym c.deref.ensures.value) name ∙ sym c.in_default.ensures.newest in
-    scope_is _ _ _ _
+    scope_is _ _ _ _ _ _
     (ap (λ es. in_front_of hs (map known_entry es)) c.in-Ok.ensures.entries
     ∙ ap (in_front_of hs) (put_in names.table.entries c.in_ok-name.name m)
     ∙ sym (put_none hs c.in_ok-name.name.items (meant m) others none)

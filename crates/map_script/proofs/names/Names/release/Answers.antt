@@ -12,7 +12,7 @@ returns c =
     let names = c.args.self.now in
     let hs : List Held = names.held.items in
     let others : List (List ℕ × Meant) = map known_entry names.table.entries in
-    let len : min c.args.count (length hs) ≡ length hs - (length hs - c.args.count) = omega arith in
-    scope_is _ _ _ _
-    (ap (λ (gs : List Held). in_front_of gs others) c.truncate.ensures.items ∙ front_less hs c.args.count others)
-    (ap length c.truncate.ensures.items ∙ length-take c.args.count hs ∙ len)
+    let len : min c.args.mark.held (length hs) ≡ length hs - (length hs - c.args.mark.held) = omega arith in
+    scope_is _ _ _ _ _ _
+    (ap (λ (gs : List Held). in_front_of gs others) c.truncate.ensures.items ∙ front_less hs c.args.mark.held others)
+    (ap length c.truncate.ensures.items ∙ length-take c.args.mark.held hs ∙ len)

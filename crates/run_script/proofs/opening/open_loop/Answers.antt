@@ -1,4 +1,4 @@
-use Rattle.std.proofs.Common.{◌≡◌, ◌∙◌, ◌+◌, ◌≤◌, inl, List, ℕ, Ok, ap, arith, map, refl, sym}
+use Rattle.std.proofs.Common.{◌≡◌, ◌∙◌, ◌+◌, ◌≤◌, inl, List, ℕ, Ok, Some, ap, arith, map, refl, sym}
 use Rattle.map_script.specs.Known.{scope_of}
 use Rattle.map_script.specs.Loops.{loop_range}
 use Rattle.map_script.specs.Views.{seen}
@@ -7,9 +7,10 @@ use Rattle.map_tables.specs.Projects.{current_map}
 use Rattle.map_tables.specs.Tables.{Tables}
 use Rattle.run_script.specs.Blocks.{lines_between, with_places}
 use Rattle.run_script.specs.Places.{turns_of}
+use Rattle.run_script.specs.Turns.{first_count}
 use Rattle.run_script.proofs.Currents.{current_is}
-use Rattle.run_script.proofs.Positions.{entered, first_block, opened, range_known}
-use Rattle.run_script.proofs.reading.open_loop.Goals as goal
+use Rattle.run_script.proofs.Positions.{entered, loop_met, next_block}
+use Rattle.run_script.proofs.opening.open_loop.Goals as goal
 
 pub returns-in-Ok-open_first-clause-opened : goal.returns-in-Ok-open_first-clause-opened
 returns-in-Ok-open_first-clause-opened g c =
@@ -21,9 +22,8 @@ returns-in-Ok-open_first-clause-opened g c =
     let named = scope_of c.open_first.new.names in
     let range = c.in-Ok.range in
     let same = c.current.ensures.tables ∙ current_is c.maps.result.now ∙ ap current_map c.maps.ensures in
-    let is = ap (λ (m : Tables). loop_range names.names m words) (sym same) ∙ c.in-Ok.ensures.ok in
-    let (b, first, enters) = c.in-Ok-open_first.ensures.ok in
-    let block = first_block all words (r.place + 1 + c.block_len.result) c.block_len.result range names r b first c.block_len.ensures.len c.block_len.ensures.within refl in
-    range_known g.C.Canvas words r.place (lines_between all (r.place + 1) r.until) c.args.canvas.now names (turns_of all r.blocks.items) range _ is
-    (opened words range r.place (lines_between all (r.place + 1) r.until) names (turns_of all r.blocks.items) _ (sym c.has_turn.ensures ∙ c.if-not-has_turn.false)
-    (entered all names named r.blocks.items b s _ enters block))
+    let is = ap (λ (m : Tables). loop_range names m words) (sym same) ∙ c.in-Ok.ensures.ok in
+    let (b, next, enters) = c.in-Ok-open_first.ensures.ok in
+    let block = next_block all (r.place + 1 + c.block_len.result) c.block_len.result names (Some (first_count words range)) r b next c.block_len.ensures.len c.block_len.ensures.within refl in
+    loop_met names r.place (lines_between all (r.place + 1) r.until) (turns_of all r.blocks.items) words _ range _ is
+    (sym c.has_turn.ensures ∙ c.if-not-has_turn.false) (entered all names named names.placing r.blocks.items b s _ enters block)
