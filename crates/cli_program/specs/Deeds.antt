@@ -9,7 +9,7 @@ use Rattle.store_project.specs.States.{State}
 use Rattle.store_project.specs.declared.error.ProjectError.{ProjectError}
 use Rattle.run_edit.specs.Answers.{RepliesInMemory}
 use Rattle.cli_program.specs.Drawing.{IsDrawnInto, IsScriptTried}
-use Rattle.run_edit.specs.Editing.{RepliesInProject}
+use Rattle.run_edit.specs.Editing.{told_of}
 use Rattle.run_edit.specs.Inspections.{IsInspected}
 use Rattle.cli_program.specs.LevelNames.{IsListed}
 use Rattle.cli_program.specs.SourceDeeds.{IsDoneWithSome}
@@ -17,8 +17,9 @@ use Rattle.cli_print.specs.Reading.{turns}
 use Rattle.cli_program.specs.Rebuilding.{IsRebuiltInto}
 use Rattle.cli_program.specs.Salvaging.{IsSalvagedInto}
 use Rattle.cli_refusals.specs.Refusals.{IsOfOpening, NotCreated, NotExamined}
-use Rattle.run_edit.specs.Runs.{Exchange, Ran}
+use Rattle.run_edit.specs.Runs.{Exchange, IsTrace, Ran}
 use Rattle.run_edit.specs.Sessions.{RunsOver}
+use Rattle.run_edit.specs.Told.{RepliesTold}
 use Rattle.cli_refusals.specs.Statuses.{run_end, status_told}
 use Rattle.cli_words.specs.declared.asked.Request.{Request}
 use Rattle.cli_words.specs.declared.asked.Request.TheVariants.{Scratch, Create, Edit, Check, Lint, Draw, TryScript, Dump, Salvage, Picture, Inspect, Levels, Build, Rebuild}
@@ -34,10 +35,10 @@ longest_body = 2007002
 abbrev pub IsScratched : Result ℕ Refusal → Option (List ℕ) → Option (List ℕ) → Option (List ℕ)
     → Option (List ℕ) → Type 0
 IsScratched how reader-old reader-new writer-old writer-new =
-    (result : Result ℕ EditorError) × (last : ProjectMaps) × (trace : List (Exchange ProjectMaps))
+    (result : Result ℕ EditorError) × (last : ProjectMaps) × (trace : List Exchange)
     × (how ≡ run_end result)
-    × Ran (RepliesInMemory longest_body) empty_project last trace turns result reader-old reader-new
-    writer-old writer-new
+    × Ran (IsTrace (RepliesInMemory longest_body)) empty_project last trace turns result
+    reader-old reader-new writer-old writer-new
 
 -- `created` was written, and the lengths that were asked for are allowed; or it was refused
 abbrev pub IsCreated : ℕ → ℕ → Result ℕ Refusal → Option (List ℕ) → Option (List ℕ) → Type 0
@@ -55,9 +56,9 @@ IsEdited {D = D} facts how reader-old reader-new writer-old writer-new =
     ((e : ProjectError) × (how ≡ Err (of.Project e)) × IsOfOpening e × Keeps reader-old reader-new
     × Keeps writer-old writer-new)
     ⊎ ((result : Result ℕ EditorError) × (first : State D) × (last : State D)
-    × (trace : List (Exchange (State D)))
+    × (trace : List Exchange)
     × (first.must_reopen ≡ false) × (how ≡ run_end result)
-    × Ran (RepliesInProject facts) first last trace turns result
+    × Ran (IsTrace RepliesTold) (told_of first) (told_of last) trace turns result
     reader-old reader-new writer-old writer-new
     × RunsOver facts first last trace)
 

@@ -17,13 +17,14 @@ use Rattle.wad_build.specs.Counted.{IsBuildCounted}
 use Rattle.wad_levels.specs.Listing.{listing_refusal}
 use Rattle.run_edit.specs.Building.{built_text}
 use Rattle.cli_print.specs.Reading.{ReadsAll, turns}
-use Rattle.run_edit.specs.Editing.{RepliesInProject}
+use Rattle.run_edit.specs.Editing.{told_of}
 use Rattle.run_edit.specs.Inspections.{IsInspected, RefusesInspection}
 use Rattle.run_edit.specs.Recovery.{IsOnlyRead}
 use Rattle.cli_program.specs.LevelNames.{RefusesNames, levels_text}
 use Rattle.cli_refusals.specs.Refusals.{RefusesFile}
-use Rattle.run_edit.specs.Runs.{Exchange, Ran}
+use Rattle.run_edit.specs.Runs.{Exchange, IsTrace, Ran}
 use Rattle.run_edit.specs.Sessions.{RunsOver}
+use Rattle.run_edit.specs.Told.{RepliesTold}
 use Rattle.cli_refusals.specs.Statuses.{run_end, status_told}
 use Rattle.wad_build.specs.declared.counted.BuildCounts.{BuildCounts}
 use Rattle.run_edit.specs.declared.error.EditorError.{EditorError}
@@ -81,9 +82,9 @@ IsEditedOver {D = D} facts before after how reader-old reader-new writer-old wri
     (NotOpened facts before after how × IsOnlyRead facts before after
     × Keeps reader-old reader-new × Keeps writer-old writer-new)
     ⊎ ((result : Result ℕ EditorError) × (first : State D) × (last : State D)
-    × (trace : List (Exchange (State D)))
+    × (trace : List Exchange)
     × IsOpenedFrom facts before first × (after ≡ last.disk) × (how ≡ run_end result)
-    × Ran (RepliesInProject facts) first last trace turns result
+    × Ran (IsTrace RepliesTold) (told_of first) (told_of last) trace turns result
     reader-old reader-new writer-old writer-new
     × RunsOver facts first last trace)
 

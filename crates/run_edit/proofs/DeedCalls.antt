@@ -3,15 +3,12 @@ use Rattle.std.proofs.Common.{inl, inr, List, [], ◌∷◌, ◌++◌, refl, sym
 use Rattle.store_disk.specs.declared.disk.Disk.{Ghosts}
 use Rattle.store_project.specs.Calls.{AllMade, ProjectCall}
 use Rattle.store_project.specs.States.{State}
+use Rattle.run_edit.specs.Composing.{go_behind}
 use Rattle.run_edit.specs.Sessions.{AllDone, Deed, IsDeedDone}
 
 module _ {D : Type 0} (facts : Ghosts D) where
   abbrev Goes : State D → List ProjectCall → State D → Type 0
   Goes = AllMade facts
-
-  go_behind : (xs ys : List ProjectCall) (old mid new : State D) → Goes old xs mid → Goes mid ys new → Goes old (xs ++ ys) new
-  go_behind [] ys old mid new same more = subst (λ (s : State D). Goes s ys new) same more
-  go_behind (x ∷ xs) ys old mid new (next, made, rest) more = (next, made, go_behind xs ys next mid new rest more)
 
   pub go_parted : (xs ys : List ProjectCall) (old new : State D) → Goes old (xs ++ ys) new → (mid : State D) × Goes old xs mid × Goes mid ys new
   go_parted [] ys old new all = (old, refl, all)
@@ -27,4 +24,4 @@ module _ {D : Type 0} (facts : Ghosts D) where
   done_calls [] calls old new (is, same) = subst (λ (l : List ProjectCall). Goes old l new) (sym is) same
   done_calls (deed ∷ deeds) calls old new (mid, its, more, done, rest, is) =
       subst (λ (l : List ProjectCall). Goes old l new) (sym is)
-      (go_behind its more old mid new (deed_calls deed its old mid done) (done_calls deeds more mid new rest))
+      (go_behind facts its more old mid new (deed_calls deed its old mid done) (done_calls deeds more mid new rest))

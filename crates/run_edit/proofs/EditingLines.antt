@@ -15,7 +15,7 @@ use Rattle.store_project.specs.Stands.{IsOutcome}
 use Rattle.store_project.specs.States.{State}
 use Rattle.store_project.specs.declared.error.ProjectError.{ProjectError}
 use Rattle.store_project.specs.declared.error.ProjectError.TheVariants.{Device, OutOfMemory, Reopen, GenerationsSpent, Refused, Damaged, Blank, NotAProject, NotEmpty, BadGeometry}
-use Rattle.run_edit.specs.Editing.{AnswersQuery, IsTold, MayLack, RepliesInProject, RepliesToQuery, outcome_in}
+use Rattle.run_edit.specs.Editing.{AnswersQuery, IsTold, MayLack, RepliesInProject, RepliesToQuery, outcome_in, told_of}
 use Rattle.run_edit.specs.Queries.{IsAnswer, TakesMemory, Unanswered, query_of}
 use Rattle.run_edit.specs.Texts.{outcome_text, refused_text}
 use Rattle.run_edit.specs.declared.error.EditorError.{EditorError}
@@ -36,7 +36,7 @@ some_to : (P : Type 0) (Q : Query → Type 0) (o : Option (List ℕ × Query)) (
 some_to P Q None q e told = cc
 some_to P Q (Some r) q e told = let same : q ≡ r.1 = cc in subst Q same told
 
-none_of : (o : Option (List ℕ × Query)) → None ≡ option_map (λ q. q.1) o → o ≡ None
+pub none_of : (o : Option (List ℕ × Query)) → None ≡ option_map (λ q. q.1) o → o ≡ None
 none_of None e = refl
 none_of (Some q) e = cc
 
@@ -96,9 +96,9 @@ module _ {D : Type 0} (facts : Ghosts D) where
 
   long_told : (old new : State D) (a b text : List ℕ) → 256 < length a → 256 < length b → Told old a text new → Told old b text new
   long_told old new a b text long longer (inl told) =
-      inl (to_none (Tried old b text new) (λ q. AnswersQuery old q.1 text × (new ≡ old)) (query_of b) (long-query b longer)
-      (long_tried old new a b text long longer (at_none (Tried old a text new) (λ q. AnswersQuery old q.1 text × (new ≡ old)) (query_of a) (long-query a long) told)))
-  long_told old new a b text long longer (inr ((lacks, same), is)) = absurd (at_none ⊥ (λ q. MayLack old q.1) (query_of a) (long-query a long) lacks)
+      inl (to_none (Tried old b text new) (λ q. AnswersQuery (told_of old) q.1 text × (new ≡ old)) (query_of b) (long-query b longer)
+      (long_tried old new a b text long longer (at_none (Tried old a text new) (λ q. AnswersQuery (told_of old) q.1 text × (new ≡ old)) (query_of a) (long-query a long) told)))
+  long_told old new a b text long longer (inr ((lacks, same), is)) = absurd (at_none ⊥ (λ q. MayLack (told_of old) q.1) (query_of a) (long-query a long) lacks)
 
   -- a line is answered as its front
   pub long_line : (old new : State D) (line text : List ℕ) → Told old (take 257 line) text new → Told old line text new
@@ -120,23 +120,23 @@ module _ {D : Type 0} (facts : Ghosts D) where
       → ((answer : Result ℕ ProjectError) × Applies facts old line answer new × (outcome ≡ outcome_in answer))
       → Told old line (outcome_text outcome) new
   replies_change old new line outcome none (answer, applies, is) =
-      inl (to_none (Tried old line (outcome_text outcome) new) (λ q. AnswersQuery old q.1 (outcome_text outcome) × (new ≡ old)) (query_of line) (none_of (query_of line) none)
+      inl (to_none (Tried old line (outcome_text outcome) new) (λ q. AnswersQuery (told_of old) q.1 (outcome_text outcome) × (new ≡ old)) (query_of line) (none_of (query_of line) none)
       (answer, applies, ap outcome_text is))
 
   -- a query
-  pub replies_query : (m : State D) (line text : List ℕ) (q : Query) → Some q ≡ option_map (λ q. q.1) (query_of line) → RepliesToQuery m q text → Told m line text m
-  replies_query m line text q some (inl told) = inl (some_to (Tried m line text m) (λ x. AnswersQuery m x text × (m ≡ m)) (query_of line) q some (told, refl))
-  replies_query m line text q some (inr (lacks, is)) = inr ((some_to ⊥ (λ x. MayLack m x) (query_of line) q some lacks, refl), is)
+  pub replies_query : (m : State D) (line text : List ℕ) (q : Query) → Some q ≡ option_map (λ q. q.1) (query_of line) → RepliesToQuery (told_of m) q text → Told m line text m
+  replies_query m line text q some (inl told) = inl (some_to (Tried m line text m) (λ x. AnswersQuery (told_of m) x text × (m ≡ m)) (query_of line) q some (told, refl))
+  replies_query m line text q some (inr (lacks, is)) = inr ((some_to ⊥ (λ x. MayLack (told_of m) x) (query_of line) q some lacks, refl), is)
 
 -- a query that was answered of the project's maps
 pub query_told : {D : Type 0} (m : State D) (maps : MapsView) (q : Query) (text : List ℕ) → maps ≡ m.maps → m.must_reopen ≡ false
-    → IsAnswer (project_of maps) q text → RepliesToQuery m q text
+    → IsAnswer (project_of maps) q text → RepliesToQuery (told_of m) q text
 query_told m maps q text same ready told =
     inl (inr (ready, subst (λ (v : MapsView). IsAnswer (project_of v) q text) same told))
 
 -- where no answer was written, some text may be answered
 pub query_untold : {D : Type 0} (m : State D) (maps : MapsView) (q : Query) (e : EditorError) (u w : Option (List ℕ)) → maps ≡ m.maps → m.must_reopen ≡ false
-    → Unanswered e (λ text. IsAnswer (project_of maps) q text) (TakesMemory q) u w → (text : List ℕ) × RepliesToQuery m q text
+    → Unanswered e (λ text. IsAnswer (project_of maps) q text) (TakesMemory q) u w → (text : List ℕ) × RepliesToQuery (told_of m) q text
 query_untold m maps q e u w same ready none =
     elim (some_answer (project_of maps) q e u w none) [
       | inl told ↦ (told.0, query_told m maps q told.0 same ready told.1)

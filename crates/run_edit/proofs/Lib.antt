@@ -10,3 +10,7 @@ pub mod RunCalls
 pub mod Recovering
 pub mod DeedCalls
 pub mod Telling
+pub mod LineCalls
+pub mod GroupCalls
+pub mod Waiting
+pub mod Settling

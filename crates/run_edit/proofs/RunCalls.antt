@@ -1,58 +1,27 @@
--- The calls that a run makes, the moments between them, and what stands at its exit.
+-- The call that a line makes over a project, the moments in it and behind it, and what stands then; and a run.
 use Rattle.std.proofs.Common.{◌≡◌, ◌∙◌, ◌⊎◌, inl, inr, ℕ, ◌≤◌, true, false, List, [], ◌∷◌, Option, Some, None, Result, Ok, Err, refl, sym, ap, subst}
-use Rattle.std.specs.Prelude.{MatchOption}
-use Rattle.std.proofs.lemmas.Bool.{cases_Bool, true≢false}
+use Rattle.std.proofs.lemmas.Bool.{true≢false}
 use Rattle.store_disk.specs.Moments.{LeavesOnly}
 use Rattle.store_disk.specs.Stops.{Each}
 use Rattle.store_disk.specs.declared.disk.Disk.{Ghosts}
 use Rattle.store_disk.proofs.Moments.{started}
 use Rattle.map_tables.specs.Projects.{ProjectMaps, project_of}
 use Rattle.store_project.specs.Calls.{AllMade, Applies, ProjectCall}
-use Rattle.store_project.specs.Calls.ProjectCall.{Apply}
 use Rattle.store_project.specs.Outcomes.{EndsApply, RefusesApply}
 use Rattle.store_project.specs.Stands.{IsOutcome}
 use Rattle.store_project.specs.States.{State, IsProjectKept}
 use Rattle.store_project.specs.declared.error.ProjectError.{ProjectError}
 use Rattle.store_project.specs.declared.error.ProjectError.TheVariants.{Device, OutOfMemory, Reopen, GenerationsSpent, Refused, Damaged, Blank, NotAProject, NotEmpty, BadGeometry}
 use Rattle.store_project.proofs.Holding.{session_moments}
-use Rattle.run_edit.specs.Editing.{AnswersQuery, IsTold, MayLack, RepliesInProject, outcome_in}
+use Rattle.run_edit.specs.Editing.{RepliesInProject, outcome_in, told_of}
 use Rattle.run_edit.specs.Queries.{query_of}
-use Rattle.run_edit.specs.Runs.{Exchange, IsTrace}
-use Rattle.run_edit.specs.Sessions.{AllReopen, AreCalls, HoldsThroughout, IsInDoubt, RunsOver}
+use Rattle.run_edit.specs.Runs.{Exchange}
+use Rattle.run_edit.specs.Sessions.{GoesOver, HoldsThroughout, IsInDoubt, IsOutcomeOfAll, RunsOver}
 use Rattle.run_edit.specs.Texts.{outcome_text, refused_text}
 use Rattle.run_edit.specs.declared.query.Query.{Query}
+use Rattle.run_edit.proofs.LineCalls.{AtLine, line_calls, line_told}
 
 module _ {D : Type 0} (facts : Ghosts D) where
-  abbrev Told : State D → List ℕ → List ℕ → State D → Type 0
-  Told = RepliesInProject facts
-
-  -- what `Told` is, by what the line is
-  abbrev ToldOf : Option (List ℕ × Query) → State D → Exchange (State D) → Type 0
-  ToldOf o old e = MatchOption o (IsTold facts old e.line e.text e.after) (λ q. AnswersQuery old q.1 e.text × (e.after ≡ old))
-      ⊎ ((MatchOption o ⊥ (λ q. MayLack old q.1) × (e.after ≡ old)) × (e.text ≡ refused_text 31))
-
-  abbrev Made : State D → List ProjectCall → State D → Type 0
-  Made = AllMade facts
-
-  -- ---- The calls
-
-  abbrev CallsOf : Option (List ℕ × Query) → Exchange (State D) → List (Exchange (State D)) → List ProjectCall → Type 0
-  CallsOf o e trace calls = MatchOption o
-      ((answer : Result ℕ ProjectError) × (rest : List ProjectCall) × (calls ≡ Apply e.line answer ∷ rest)
-      × (e.text ≡ outcome_text (outcome_in answer)) × AreCalls trace rest)
-      (λ q. AreCalls trace calls)
-
-  one_call : (o : Option (List ℕ × Query)) (e : Exchange (State D)) (trace : List (Exchange (State D))) (old new : State D) → ToldOf o old e
-      → ((calls : List ProjectCall) × AreCalls trace calls × Made e.after calls new) → (calls : List ProjectCall) × CallsOf o e trace calls × Made old calls new
-  one_call None e trace old new (inl (answer, applies, is)) (calls, are, made) = (Apply e.line answer ∷ calls, (answer, calls, refl, is, are), (e.after, applies, made))
-  one_call None e trace old new (inr ((never, same), is)) rest = absurd never
-  one_call (Some q) e trace old new (inl (told, same)) (calls, are, made) = (calls, are, subst (λ (s : State D). Made s calls new) same made)
-  one_call (Some q) e trace old new (inr ((lacks, same), is)) (calls, are, made) = (calls, are, subst (λ (s : State D). Made s calls new) same made)
-
-  pub calls_of : (trace : List (Exchange (State D))) (old new : State D) → IsTrace Told old trace new → (calls : List ProjectCall) × AreCalls trace calls × Made old calls new
-  calls_of [] old new same = ([], refl, same)
-  calls_of (e ∷ trace) old new (told, more) = one_call (query_of e.line) e trace old new told (calls_of trace e.after new more)
-
   -- ---- A project that must be opened again
 
   reopen_refused : (e : ProjectError) (old new : State D) (line : List ℕ) → old.must_reopen ≡ true → RefusesApply facts e old new line → (new ≡ old) × (e ≡ Reopen)
@@ -74,19 +43,21 @@ module _ {D : Type 0} (facts : Ghosts D) where
       let was = reopen_refused e old new line reopen told in
       (was.0, is ∙ ap (λ (x : ProjectError). outcome_text (outcome_in (Err x))) was.1)
 
-  reopen_one : (o : Option (List ℕ × Query)) (e : Exchange (State D)) (old : State D) → old.must_reopen ≡ true → ToldOf o old e → (e.after ≡ old) × (e.text ≡ refused_text 32)
-  reopen_one None e old reopen (inl (answer, applies, is)) = reopen_told answer old e.after e.line e.text reopen applies.ends is
-  reopen_one None e old reopen (inr ((never, same), is)) = absurd never
-  reopen_one (Some q) e old reopen (inl (inl (was, is), same)) = (same, is)
-  reopen_one (Some q) e old reopen (inl (inr (ready, is), same)) = absurd (true≢false (sym reopen ∙ ready))
-  reopen_one (Some q) e old reopen (inr (((ready, takes), same), is)) = absurd (true≢false (sym reopen ∙ ready))
+  reopen_one : (o : Option (List ℕ × Query)) (old new : State D) (line text : List ℕ) → old.must_reopen ≡ true → AtLine facts o old line text new → (new ≡ old) × (text ≡ refused_text 32)
+  reopen_one None old new line text reopen (inl (answer, applies, is)) = reopen_told answer old new line text reopen applies.ends is
+  reopen_one None old new line text reopen (inr ((never, same), is)) = absurd never
+  reopen_one (Some q) old new line text reopen (inl (inl (was, is), same)) = (same, is)
+  reopen_one (Some q) old new line text reopen (inl (inr (ready, is), same)) = absurd (true≢false (sym reopen ∙ ready))
+  reopen_one (Some q) old new line text reopen (inr (((ready, takes), same), is)) = absurd (true≢false (sym reopen ∙ ready))
 
-  pub stays : (trace : List (Exchange (State D))) (old new : State D) → old.must_reopen ≡ true → IsTrace Told old trace new → (new ≡ old) × AllReopen trace
-  stays [] old new reopen same = (same, tt)
-  stays (e ∷ trace) old new reopen (told, more) =
-      let here = reopen_one (query_of e.line) e old reopen told in
-      let behind = stays trace e.after new (ap (λ (s : State D). s.must_reopen) here.0 ∙ reopen) more in
-      (behind.0 ∙ here.0, (here.1, behind.1))
+  kept_one : (o : Option (List ℕ × Query)) (old new : State D) (line text : List ℕ) → IsProjectKept facts old → AtLine facts o old line text new → IsProjectKept facts new
+  kept_one None old new line text kept (inl (answer, applies, is)) = applies.kept
+  kept_one None old new line text kept (inr ((never, same), is)) = absurd never
+  kept_one (Some q) old new line text kept (inl (told, same)) = subst (λ (s : State D). IsProjectKept facts s) (sym same) kept
+  kept_one (Some q) old new line text kept (inr ((lacks, same), is)) = subst (λ (s : State D). IsProjectKept facts s) (sym same) kept
+
+  pub line_kept : (old new : State D) (line text : List ℕ) → RepliesInProject facts old line text new → IsProjectKept facts old → IsProjectKept facts new
+  line_kept old new line text told kept = kept_one (query_of line) old new line text kept told
 
   -- ---- The exit
 
@@ -124,47 +95,51 @@ module _ {D : Type 0} (facts : Ghosts D) where
       images_after old new line (Err e) ready applies same,
     )
 
-    doubt_one : (o : Option (List ℕ × Query)) (e : Exchange (State D)) (old : State D) → old.must_reopen ≡ false → e.after.must_reopen ≡ true → ToldOf o old e
-        → (e.text ≡ refused_text 30) × After e.after e.line
-    doubt_one None e old ready reopen (inl (answer, applies, is)) = doubt_told answer old e.after e.line e.text ready reopen applies applies.ends is
-    doubt_one None e old ready reopen (inr ((never, same), is)) = absurd never
-    doubt_one (Some q) e old ready reopen (inl (told, same)) = absurd (true≢false (sym reopen ∙ (ap (λ (s : State D). s.must_reopen) same ∙ ready)))
-    doubt_one (Some q) e old ready reopen (inr ((lacks, same), is)) = absurd (true≢false (sym reopen ∙ (ap (λ (s : State D). s.must_reopen) same ∙ ready)))
+    doubt_one : (o : Option (List ℕ × Query)) (old new : State D) (line text : List ℕ) → old.must_reopen ≡ false → new.must_reopen ≡ true → AtLine facts o old line text new
+        → (text ≡ refused_text 30) × After new line
+    doubt_one None old new line text ready reopen (inl (answer, applies, is)) = doubt_told answer old new line text ready reopen applies applies.ends is
+    doubt_one None old new line text ready reopen (inr ((never, same), is)) = absurd never
+    doubt_one (Some q) old new line text ready reopen (inl (told, same)) = absurd (true≢false (sym reopen ∙ (ap (λ (s : State D). s.must_reopen) same ∙ ready)))
+    doubt_one (Some q) old new line text ready reopen (inr ((lacks, same), is)) = absurd (true≢false (sym reopen ∙ (ap (λ (s : State D). s.must_reopen) same ∙ ready)))
 
     -- one line, of which the public call tells
-    pub line_in_doubt : (old new : State D) (line text : List ℕ) → Told old line text new → old.must_reopen ≡ false → new.must_reopen ≡ true → After new line
-    line_in_doubt old new line text told ready reopen =
-        let e : Exchange (State D) = record { line = line; text = text; after = new } in
-        (doubt_one (query_of line) e old ready reopen told).1
+    pub line_in_doubt : (old new : State D) (line text : List ℕ) → RepliesInProject facts old line text new → old.must_reopen ≡ false → new.must_reopen ≡ true → After new line
+    line_in_doubt old new line text told ready reopen = (doubt_one (query_of line) old new line text ready reopen told).1
 
-    further : (e : Exchange (State D)) (trace : List (Exchange (State D))) (new : State D) → IsInDoubt facts trace new → IsInDoubt facts (e ∷ trace) new
-    further e trace new doubt = record {
-      front = e ∷ doubt.front;
-      faulted = doubt.faulted;
-      back = doubt.back;
-      split = ap (λ (t : List (Exchange (State D))). e ∷ t) doubt.split;
-      answered = doubt.answered;
-      behind = doubt.behind;
-      images = doubt.images;
-    }
+    -- each image has all of a single line, or nothing of it
+    alone : (cap : ℕ) (maps : ProjectMaps) (line file : List ℕ) → IsOutcome cap maps line file → IsOutcomeOfAll cap maps (line ∷ []) file
+    alone cap maps line file (inl stands) = inl stands
+    alone cap maps line file (inr (new, leads, stands)) = inr (new, (new, leads, refl), stands)
 
-    pub ends_in_doubt : (trace : List (Exchange (State D))) (old new : State D) → IsTrace Told old trace new → old.must_reopen ≡ false → new.must_reopen ≡ true → IsInDoubt facts trace new
-    ends_in_doubt [] old new same ready reopen = absurd (true≢false (sym reopen ∙ (ap (λ (s : State D). s.must_reopen) same ∙ ready)))
-    ends_in_doubt (e ∷ trace) old new (told, more) ready reopen = elim (cases_Bool e.after.must_reopen) [
-      | inl at ↦
-          let here = doubt_one (query_of e.line) e old ready at told in
-          let behind = stays trace e.after new at more in
-          record {
-            front = [];
-            faulted = e;
-            back = trace;
-            split = refl;
-            answered = here.0;
-            behind = behind.1;
-            images = subst (λ (s : State D). After s e.line) (sym behind.0) here.1;
-          }
-      | inr still ↦ further e trace new (ends_in_doubt trace e.after new more still reopen)
-    ]
+    line_doubt : (old new : State D) (line text : List ℕ) → RepliesInProject facts old line text new → old.must_reopen ≡ false → new.must_reopen ≡ true
+        → IsInDoubt facts (record { line = line; text = text } ∷ []) new
+    line_doubt old new line text told ready reopen =
+        let here = doubt_one (query_of line) old new line text ready reopen told in
+        record {
+          front = [];
+          faulted = record { line = line; text = text };
+          back = [];
+          split = refl;
+          answered = here.0;
+          behind = tt;
+          more = [];
+          among = tt;
+          images = λ file left. alone new.cap (project_of new.maps) line file (here.1 file left);
+        }
+
+    -- a line goes on over the project
+    pub line_goes : (old new : State D) (line text : List ℕ) → RepliesInProject facts old line text new → GoesOver facts old (record { line = line; text = text } ∷ []) new
+    line_goes old new line text told =
+        let calls = line_calls facts (query_of line) old new line text refl told in
+        record {
+          told = (told_of new, line_told facts (query_of line) old new line text told, refl);
+          calls = calls.0;
+          are = calls.1;
+          made = calls.2;
+          kept = line_kept old new line text told;
+          in_doubt = line_doubt old new line text told;
+          reopen = λ reopen. let same = reopen_one (query_of line) old new line text reopen told in (same.0, (same.1, tt));
+        }
 
     -- ---- The moments
 
@@ -177,47 +152,28 @@ module _ {D : Type 0} (facts : Ghosts D) where
       quiet : (old : State D) (line : List ℕ) → IsProjectKept facts old → old.must_reopen ≡ false → LeavesOnly facts old.disk old.disk (IsOutcome old.cap (project_of old.maps) line)
       quiet old line kept ready = started facts old.disk (IsOutcome old.cap (project_of old.maps) line) (λ file left. inl (old.generation, kept ready file (only_now old.disk file left)))
 
-      moments_one : (o : Option (List ℕ × Query)) (e : Exchange (State D)) (old : State D) → IsProjectKept facts old → old.must_reopen ≡ false → ToldOf o old e
-          → LeavesOnly facts old.disk e.after.disk (IsOutcome old.cap (project_of old.maps) e.line)
-      moments_one None e old kept ready (inl (answer, applies, is)) = applies.any_moment ready
-      moments_one None e old kept ready (inr ((never, same), is)) = absurd never
-      moments_one (Some q) e old kept ready (inl (told, same)) =
-          subst (λ (s : State D). LeavesOnly facts old.disk s.disk (IsOutcome old.cap (project_of old.maps) e.line)) (sym same) (quiet old e.line kept ready)
-      moments_one (Some q) e old kept ready (inr ((lacks, same), is)) =
-          subst (λ (s : State D). LeavesOnly facts old.disk s.disk (IsOutcome old.cap (project_of old.maps) e.line)) (sym same) (quiet old e.line kept ready)
-
-      pub line_moments : (old new : State D) (line text : List ℕ) → Told old line text new → IsProjectKept facts old → old.must_reopen ≡ false
+      moments_one : (o : Option (List ℕ × Query)) (old new : State D) (line text : List ℕ) → IsProjectKept facts old → old.must_reopen ≡ false → AtLine facts o old line text new
           → LeavesOnly facts old.disk new.disk (IsOutcome old.cap (project_of old.maps) line)
-      line_moments old new line text told kept ready =
-          let e : Exchange (State D) = record { line = line; text = text; after = new } in
-          moments_one (query_of line) e old kept ready told
+      moments_one None old new line text kept ready (inl (answer, applies, is)) = applies.any_moment ready
+      moments_one None old new line text kept ready (inr ((never, same), is)) = absurd never
+      moments_one (Some q) old new line text kept ready (inl (told, same)) =
+          subst (λ (s : State D). LeavesOnly facts old.disk s.disk (IsOutcome old.cap (project_of old.maps) line)) (sym same) (quiet old line kept ready)
+      moments_one (Some q) old new line text kept ready (inr ((lacks, same), is)) =
+          subst (λ (s : State D). LeavesOnly facts old.disk s.disk (IsOutcome old.cap (project_of old.maps) line)) (sym same) (quiet old line kept ready)
 
-      -- ---- All of it
+      pub line_moments : (old new : State D) (line text : List ℕ) → RepliesInProject facts old line text new → IsProjectKept facts old → old.must_reopen ≡ false
+          → LeavesOnly facts old.disk new.disk (IsOutcome old.cap (project_of old.maps) line)
+      line_moments old new line text told kept ready = moments_one (query_of line) old new line text kept ready told
 
-      kept_one : (o : Option (List ℕ × Query)) (e : Exchange (State D)) (old : State D) → IsProjectKept facts old → ToldOf o old e → IsProjectKept facts e.after
-      kept_one None e old kept (inl (answer, applies, is)) = applies.kept
-      kept_one None e old kept (inr ((never, same), is)) = absurd never
-      kept_one (Some q) e old kept (inl (told, same)) = subst (λ (s : State D). IsProjectKept facts s) (sym same) kept
-      kept_one (Some q) e old kept (inr ((lacks, same), is)) = subst (λ (s : State D). IsProjectKept facts s) (sym same) kept
+      -- ---- A run
 
-      pub line_kept : (old new : State D) (line text : List ℕ) → Told old line text new → IsProjectKept facts old → IsProjectKept facts new
-      line_kept old new line text told kept =
-          let e : Exchange (State D) = record { line = line; text = text; after = new } in
-          kept_one (query_of line) e old kept told
-
-      run_kept : (trace : List (Exchange (State D))) (old new : State D) → IsTrace Told old trace new → IsProjectKept facts old → IsProjectKept facts new
-      run_kept [] old new same kept = subst (λ (s : State D). IsProjectKept facts s) (sym same) kept
-      run_kept (e ∷ trace) old new (told, more) kept = run_kept trace e.after new more (kept_one (query_of e.line) e old kept told)
-
-      pub runs_over : (trace : List (Exchange (State D))) (old new : State D) → IsTrace Told old trace new → IsProjectKept facts old → RunsOver facts old new trace
-      runs_over trace old new in_turn kept =
-          let all = calls_of trace old new in_turn in
-          record {
-            calls = all.0;
-            are = all.1;
-            made = all.2;
-            any_moment = run_moments old all.0 new kept;
-            kept = run_kept trace old new in_turn kept;
-            in_doubt = ends_in_doubt trace old new in_turn;
-            reopen = λ reopen. stays trace old new reopen in_turn;
-          }
+      pub runs_over : (trace : List Exchange) (old new : State D) → GoesOver facts old trace new → IsProjectKept facts old → RunsOver facts old new trace
+      runs_over trace old new goes kept = record {
+        calls = goes.calls;
+        are = goes.are;
+        made = goes.made;
+        any_moment = run_moments old goes.calls new kept;
+        kept = goes.kept kept;
+        in_doubt = goes.in_doubt;
+        reopen = goes.reopen;
+      }

@@ -15,10 +15,10 @@ apart : OutOfMemory ≡ WriterFailed → ⊥
 apart same = cc
 
 -- a text that fits was to be written, and only the writer can fail
-pub text_written : {U : Type 0} (r : Result U EditorError) (Fits : List ℕ → Type 0) (Takes : Type 0) (text : List ℕ) (u w : Option (List ℕ)) → Fits text
-    → MatchResult r (λ _. Appends u w text) (λ e. e ≡ WriterFailed) → WritesText r Fits Takes u w
-text_written (Ok x) Fits Takes text u w is told = (text, is, told)
-text_written (Err e) Fits Takes text u w is told =
+pub text_written : {U : Type 0} (r : Result U EditorError) (Fits : List ℕ → Type 0) (TakesLines : Type 0) (text : List ℕ) (u w : Option (List ℕ)) → Fits text
+    → MatchResult r (λ _. Appends u w text) (λ e. e ≡ WriterFailed) → WritesText r Fits TakesLines u w
+text_written (Ok x) Fits TakesLines text u w is told = (text, is, told)
+text_written (Err e) Fits TakesLines text u w is told =
     let failed : e ≡ WriterFailed = told in
     record {
       unwritten = subst (λ (x : EditorError). Unwritten x u w) (sym failed) tt;
@@ -27,10 +27,10 @@ text_written (Err e) Fits Takes text u w is told =
     }
 
 -- the same where memory can be lacking
-pub text_told : {U : Type 0} (r : Result U EditorError) (Fits : List ℕ → Type 0) (Takes : Type 0) (text : List ℕ) (u w : Option (List ℕ)) → Fits text → Takes
-    → MatchResult r (λ _. Appends u w text) (λ e. Unwritten e u w) → WritesText r Fits Takes u w
-text_told (Ok x) Fits Takes text u w is takes told = (text, is, told)
-text_told (Err e) Fits Takes text u w is takes told = record { unwritten = told; lacks = λ _. takes; failed = λ _. (text, is) }
+pub text_told : {U : Type 0} (r : Result U EditorError) (Fits : List ℕ → Type 0) (TakesLines : Type 0) (text : List ℕ) (u w : Option (List ℕ)) → Fits text → TakesLines
+    → MatchResult r (λ _. Appends u w text) (λ e. Unwritten e u w) → WritesText r Fits TakesLines u w
+text_told (Ok x) Fits TakesLines text u w is takes told = (text, is, told)
+text_told (Err e) Fits TakesLines text u w is takes told = record { unwritten = told; lacks = λ _. takes; failed = λ _. (text, is) }
 
 -- lack of memory was handed on, and nothing written
 pub no_memory : (cause : BuildError) (u : Option (List ℕ)) → Unwritten OutOfMemory u u × (OutOfMemory ≡ WriterFailed → cause ≢ refused.OutOfMemory)
@@ -45,15 +45,15 @@ refusal_written (Err e) cause code u w other is told =
     (subst (λ (x : EditorError). Unwritten x u w) (sym failed) tt, λ _. other)
 
 -- a text that a refusal fits, where that was to be written
-pub refusal_told : {U : Type 0} (r : Result U EditorError) (Fits : List ℕ → Type 0) (Takes : Type 0) (IsCause : BuildError → Type 0) (cause : BuildError)
-    (u w : Option (List ℕ)) → IsCause cause → ((text : List ℕ) → TellsRefusal IsCause text → Fits text) → Takes
-    → WritesRefusal r cause u w → WritesText r Fits Takes u w
-refusal_told (Ok x) Fits Takes IsCause cause u w is fits takes (other, told) = (
+pub refusal_told : {U : Type 0} (r : Result U EditorError) (Fits : List ℕ → Type 0) (TakesLines : Type 0) (IsCause : BuildError → Type 0) (cause : BuildError)
+    (u w : Option (List ℕ)) → IsCause cause → ((text : List ℕ) → TellsRefusal IsCause text → Fits text) → TakesLines
+    → WritesRefusal r cause u w → WritesText r Fits TakesLines u w
+refusal_told (Ok x) Fits TakesLines IsCause cause u w is fits takes (other, told) = (
   refused_text (build_code_of cause),
   fits (refused_text (build_code_of cause)) (record { error = cause; cause = is; not_memory = other; told = refl }),
   told,
 )
-refusal_told (Err e) Fits Takes IsCause cause u w is fits takes (unwritten, other) = record {
+refusal_told (Err e) Fits TakesLines IsCause cause u w is fits takes (unwritten, other) = record {
   unwritten = unwritten;
   lacks = λ _. takes;
   failed = λ failed. (

@@ -1,7 +1,9 @@
 pub mod Answers
 pub mod Building
+pub mod Composing
 pub mod Editing
 pub mod Errors
+pub mod Groups
 pub mod Inspections
 pub mod Lines
 pub mod Queries
@@ -9,3 +11,4 @@ pub mod Recovery
 pub mod Runs
 pub mod Sessions
 pub mod Texts
+pub mod Told

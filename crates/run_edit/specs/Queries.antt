@@ -126,18 +126,18 @@ TakesMemory (HexBuilt lump) = Unit {0}
 
 -- a text that fits wasn't written: the text takes memory, there was none and nothing was written;
 -- or the writer failed during such a text
-pub record Unanswered (e : EditorError) (Fits : List ℕ → Type 0) (Takes : Type 0)
+pub record Unanswered (e : EditorError) (Fits : List ℕ → Type 0) (TakesLines : Type 0)
     (writer-old writer-new : Option (List ℕ)) : Type 0 where
   pub unwritten : Unwritten e writer-old writer-new
-  pub lacks : e ≡ OutOfMemory → Takes
+  pub lacks : e ≡ OutOfMemory → TakesLines
   pub failed : e ≡ WriterFailed → (text : List ℕ) × Fits text
 
 -- how a call ended that should write a fitting text
 abbrev pub WritesText : {U : Type 0} → Result U EditorError → (List ℕ → Type 0) → Type 0
     → Option (List ℕ) → Option (List ℕ) → Type 0
-WritesText result Fits Takes writer-old writer-new =
+WritesText result Fits TakesLines writer-old writer-new =
     MatchResult result (λ _. (text : List ℕ) × Fits text × Appends writer-old writer-new text)
-    (λ e. Unanswered e Fits Takes writer-old writer-new)
+    (λ e. Unanswered e Fits TakesLines writer-old writer-new)
 
 -- how a call ended that should answer a query: an answer was written; or nothing, for lack of
 -- memory that the answer takes; or the writer failed during an answer

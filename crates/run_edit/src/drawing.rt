@@ -1,10 +1,11 @@
 //! A run over maps in memory: the session of `scratch`.
-ghost use Rattle.std.specs.Prelude.{◌≡◌, ◌≤◌, ℕ, List};
+ghost use Rattle.std.specs.Prelude.{◌≡◌, ◌≤◌, ℕ, List, [], refl, take};
 ghost use Rattle.map_tables.specs.Projects.{ProjectMaps, body_len, empty_project, project_of};
 ghost use Rattle.run_edit.specs.declared.limits.TheConstants.{LONGEST_BODY};
-ghost use Rattle.run_edit.specs.Answers.{AnswersInMemory, ChangesBy, LacksMemory, RepliesInMemory, outcome_of};
+ghost use Rattle.run_edit.specs.Answers.{ChangesBy, RepliesInMemory, outcome_of};
 ghost use Rattle.run_edit.specs.Queries.{WritesAnswer};
-ghost use Rattle.run_edit.specs.Runs.{Exchange, Ran};
+ghost use Rattle.run_edit.specs.Composing.{IsTrace-append};
+ghost use Rattle.run_edit.specs.Runs.{AnswersLine, Exchange, IsTrace, Ran};
 
 use crate::answers::write_answer;
 use crate::error::EditorError;
@@ -78,29 +79,58 @@ impl Drawing {
     }
 }
 
+// Answers a line. `line` is at most its first 257 bytes.
+fn answer_line<W: Write>(
+    alloc: Global,
+    drawing: &mut Drawing,
+    line: &[u8],
+    writer: &mut W,
+) -> Result<(), EditorError>
+    ensures { (whole : List ℕ) → line.now ≡ take 257 whole
+        → AnswersLine (RepliesInMemory 2007002) result drawing.old drawing.new whole
+        (W.contents writer.old) (W.contents writer.new) }
+{
+    let Some(query) = read_query(line) else {
+        let outcome = drawing.change(line);
+        return write_outcome(outcome, writer);
+    };
+    match drawing.answer_query(alloc, query, writer) {
+        Ok(()) => Ok(()),
+        Err(EditorError::OutOfMemory) => {
+            write_outcome(Err(CommandError::OutOfMemory.code()), writer)
+        }
+        Err(_) => Err(EditorError::WriterFailed),
+    }
+}
+
+// Each line is answered at once.
 impl Session for Drawing {
-    ghost answers = { AnswersInMemory 2007002 };
+    type Waiting = ();
 
-    ghost lacks = { LacksMemory 2007002 };
+    ghost goes = { IsTrace (RepliesInMemory 2007002) };
 
-    fn answer<W: Write>(
+    ghost waits = { λ _ _ lines. lines ≡ [] };
+
+    fn none_waiting() {}
+
+    fn take<W: Write>(
         &mut self,
         alloc: Global,
+        _waiting: &mut (),
         line: &[u8],
+        _may_wait: bool,
         writer: &mut W,
     ) -> Result<(), EditorError> {
-        let Some(query) = read_query(line) else {
-            let outcome = self.change(line);
-            return write_outcome(outcome, writer);
-        };
-        match self.answer_query(alloc, query, writer) {
-            Ok(()) => Ok(()),
-            Err(EditorError::OutOfMemory) => {
-                write_outcome(Err(CommandError::OutOfMemory.code()), writer)
-            }
-            Err(_) => Err(EditorError::WriterFailed),
-        }
+        answer_line(alloc, self, line, writer)
     }
+
+    fn settle<W: Write>(&mut self, _waiting: (), _writer: &mut W) -> Result<(), EditorError> {
+        Ok(())
+    }
+
+    ghost none = { λ _. refl };
+
+    ghost then_more = { IsTrace-append (RepliesInMemory 2007002) };
 }
 
 /// Answers the lines of the reader over the maps of a project in memory, at first the empty map MAP01 alone, and
@@ -120,8 +150,8 @@ pub fn run_in_memory<R: Read, W: Write>(
     writer: &mut W,
     turns: u32,
 ) -> Result<u64, EditorError>
-    ensures { (last : ProjectMaps) × (trace : List (Exchange ProjectMaps))
-        × Ran (RepliesInMemory LONGEST_BODY) empty_project last trace turns result
+    ensures { (last : ProjectMaps) × (trace : List Exchange)
+        × Ran (IsTrace (RepliesInMemory LONGEST_BODY)) empty_project last trace turns result
         (R.remaining reader.old) (R.remaining reader.new)
         (W.contents writer.old) (W.contents writer.new) }
 {

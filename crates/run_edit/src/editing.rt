@@ -1,4 +1,4 @@
-//! A run over a project file: the session of `edit`, where a command is on the disk before it is answered.
+//! The answer to one line over a project: a command is on the disk before it is answered.
 ghost use Rattle.std.specs.Prelude.{◌≡◌, ℕ, List, true, false, Result, MatchResult, take};
 ghost use Rattle.std.specs.Io.KnownBytes.{Appends};
 ghost use Rattle.store_disk.specs.Moments.{LeavesOnly};
@@ -6,26 +6,23 @@ ghost use Rattle.store_disk.specs.Stops.{Each};
 ghost use Rattle.map_tables.specs.Projects.{project_of};
 ghost use Rattle.store_project.specs.Calls.{Applies};
 ghost use Rattle.store_project.specs.Stands.{IsOutcome};
-ghost use Rattle.store_project.specs.States.{IsProjectKept, State};
+ghost use Rattle.store_project.specs.States.{IsProjectKept};
 ghost use Rattle.store_project.specs.declared.error.ProjectError.{ProjectError};
-ghost use Rattle.run_edit.specs.Editing.{AnswersInProject, LacksInProject, RepliesInProject, RepliesToQuery, outcome_in};
-ghost use Rattle.run_edit.specs.Runs.{AnswersLine, Exchange, Ran};
-ghost use Rattle.run_edit.specs.Sessions.{RunsOver};
+ghost use Rattle.run_edit.specs.Editing.{RepliesInProject, RepliesToQuery, outcome_in, told_of};
+ghost use Rattle.run_edit.specs.Runs.{AnswersLine};
 ghost use Rattle.run_edit.specs.declared.error.EditorError.TheVariants.{WriterFailed};
 
 use crate::answers::write_answer;
 use crate::error::EditorError;
 use crate::outcome::write_outcome;
 use crate::query::{Query, read_query};
-use crate::reading::run_lines;
-use crate::session::Session;
 use std::alloc::Global;
-use std::io::{Read, Write};
+use std::io::Write;
 use store_disk::Disk;
 use store_project::{Project, ProjectError};
 
-// The outcome of a line: its number, or the refusal's code.
-fn outcome_in(ended: Result<u32, ProjectError>) -> Result<u32, u16>
+/// The outcome of a line: its number, or the refusal's code.
+pub fn outcome_in(ended: Result<u32, ProjectError>) -> Result<u32, u16>
     ensures { result ≡ outcome_in ended }
 {
     match ended {
@@ -61,7 +58,7 @@ fn answer_query<D: Disk, W: Write>(
     query: Query,
     writer: &mut W,
 ) -> Result<(), EditorError>
-    ensures { (text : List ℕ) × RepliesToQuery project.now query text
+    ensures { (text : List ℕ) × RepliesToQuery (told_of project.now) query text
         × MatchResult result (λ _. Appends (W.contents writer.old) (W.contents writer.new) text)
         (λ e. e ≡ WriterFailed) }
 {
@@ -77,23 +74,22 @@ fn answer_query<D: Disk, W: Write>(
     }
 }
 
-impl<D: Disk> Session for Project<D> {
-    ghost answers = { AnswersInProject D.Disk };
-
-    ghost lacks = { LacksInProject };
-
-    fn answer<W: Write>(
-        &mut self,
-        alloc: Global,
-        line: &[u8],
-        writer: &mut W,
-    ) -> Result<(), EditorError> {
-        let Some(query) = read_query(line) else {
-            let outcome = change(self, line);
-            return write_outcome(outcome, writer);
-        };
-        answer_query(alloc, self, query, writer)
-    }
+/// Answers a line at once. `line` is at most its first 257 bytes.
+pub fn answer_line<D: Disk, W: Write>(
+    alloc: Global,
+    project: &mut Project<D>,
+    line: &[u8],
+    writer: &mut W,
+) -> Result<(), EditorError>
+    ensures { (whole : List ℕ) → line.now ≡ take 257 whole
+        → AnswersLine (RepliesInProject D.Disk) result project.old project.new whole
+        (W.contents writer.old) (W.contents writer.new) }
+{
+    let Some(query) = read_query(line) else {
+        let outcome = change(project, line);
+        return write_outcome(outcome, writer);
+    };
+    answer_query(alloc, project, query, writer)
 }
 
 /// Answers a line over a project. A command is on the disk before its number is answered.
@@ -123,33 +119,5 @@ pub fn answer<D: Disk, W: Write>(
 {
     // Only for its contract: it says what each image stands for as the call begins.
     let _ = project.must_reopen();
-    project.answer(alloc, front(line), writer)
-}
-
-/// Answers the lines of the reader over a project, and returns how many lines it answered. It makes at most `turns`
-/// reads of at most 4,096 bytes each, and flushes the writer after each of these turns.
-///
-/// After a line that was answered `no 30`, every line is answered `no 32`, queries too, until the file is reopened.
-///
-/// # Errors
-///
-/// - `InputTooLong` if that many reads don't reach the end of the input, and `ReaderFailed`: every line that was read
-///   whole has been answered, and the rest is dropped.
-/// - `WriterFailed`: no further line was answered.
-pub fn run<D: Disk, R: Read, W: Write>(
-    alloc: Global,
-    project: &mut Project<D>,
-    reader: &mut R,
-    writer: &mut W,
-    turns: u32,
-) -> Result<u64, EditorError>
-    ensures { (trace : List (Exchange (State D)))
-        × Ran (RepliesInProject D.Disk) project.old project.new trace turns result
-        (R.remaining reader.old) (R.remaining reader.new)
-        (W.contents writer.old) (W.contents writer.new)
-        × RunsOver D.Disk project.old project.new trace }
-{
-    // Only for its contract: it says what each image stands for as the run begins.
-    let _ = project.must_reopen();
-    run_lines(alloc, project, reader, writer, turns)
+    answer_line(alloc, project, front(line), writer)
 }

@@ -1,5 +1,5 @@
 //! The input line that is being read; only its first 257 bytes are kept.
-ghost use Rattle.std.specs.Prelude.{◌≡◌, ◌≤◌, ℕ, List, [], ◌∷◌, ◌++◌, take};
+ghost use Rattle.std.specs.Prelude.{◌≡◌, ◌≤◌, ℕ, List, [], ◌∷◌, ◌++◌, length, take};
 
 use std::marker::Model;
 
@@ -31,7 +31,8 @@ impl InputLine {
 
     /// The bytes that are kept.
     pub fn as_slice(&self) -> &[u8]
-        ensures { result.now ≡ self.now }
+        ensures bytes { result.now ≡ self.now }
+        ensures short { length result.now ≤ 257 }
     {
         &self.bytes[..self.len]
     }

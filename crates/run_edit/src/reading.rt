@@ -1,9 +1,9 @@
 //! The loop of a run: each turn reads some bytes, cuts them at LF, answers the lines and flushes the answers.
-ghost use Rattle.std.specs.Prelude.{◌≡◌, ◌≤◌, ◌+◌, ◌++◌, ℕ, List, ◌∷◌, [], length, OnOk, IfOk, MatchResult};
+ghost use Rattle.std.specs.Prelude.{◌≡◌, ◌≤◌, ℕ, List, ◌∷◌, [], length, take, IfOk, OnOk, MatchResult};
 ghost use Rattle.std.specs.Io.KnownBytes.{Keeps};
 ghost use Rattle.run_edit.specs.declared.error.EditorError.TheVariants.{WriterFailed};
 ghost use Rattle.run_edit.specs.Lines.{IsBegun, line_if_any};
-ghost use Rattle.run_edit.specs.Runs.{AnswersLines, Exchange, Feeds, Ran, Replies};
+ghost use Rattle.run_edit.specs.Runs.{Exchange, Feeds, Ran, TakesLines, none_waits};
 
 use crate::error::EditorError;
 use crate::input_line::InputLine;
@@ -22,6 +22,20 @@ fn flush<W: Write>(writer: &mut W) -> Result<(), EditorError>
     }
 }
 
+// Whether the bytes end more than one line.
+fn ends_several(bytes: &[u8]) -> bool {
+    let mut is_second = false;
+    for b in bytes {
+        if *b == b'\n' {
+            if is_second {
+                return true;
+            }
+            is_second = true;
+        }
+    }
+    false
+}
+
 // Answers a last line without LF, if it isn't empty.
 fn finish<S: Session, W: Write>(
     alloc: Global,
@@ -30,14 +44,15 @@ fn finish<S: Session, W: Write>(
     writer: &mut W,
 ) -> Result<u64, EditorError>
     ensures { (part : List ℕ) → IsBegun line.now part
-        → AnswersLines (Replies S.answers S.lacks) result session.old session.new
-        (line_if_any part) (W.contents writer.old) (W.contents writer.new) }
+        → TakesLines S.goes none_waits result session.old session.new
+        (line_if_any part) (W.contents writer.old) (W.contents writer.new)
+        × IfOk result (λ n. n ≡ length (line_if_any part)) }
 {
     let kept = line.as_slice();
     if kept.is_empty() {
         return Ok(0);
     }
-    match session.answer(alloc, kept, writer) {
+    match take_alone(alloc, session, kept, writer) {
         Ok(()) => match flush(writer) {
             Ok(()) => Ok(1),
             Err(error) => Err(error),
@@ -46,24 +61,49 @@ fn finish<S: Session, W: Write>(
     }
 }
 
-// Takes one byte: LF ends the line, which is answered; any other byte is appended to it.
+// Answers one line.
+fn take_alone<S: Session, W: Write>(
+    alloc: Global,
+    session: &mut S,
+    line: &[u8],
+    writer: &mut W,
+) -> Result<(), EditorError>
+    requires { length line.now ≤ 257 }
+    ensures { (whole : List ℕ) → line.now ≡ take 257 whole
+        → TakesLines S.goes none_waits result session.old session.new (whole ∷ [])
+        (W.contents writer.old) (W.contents writer.new) }
+{
+    let mut waiting = S::none_waiting();
+    match session.take(alloc, &mut waiting, line, false, writer) {
+        Ok(()) => session.settle(waiting, writer),
+        Err(error) => Err(error),
+    }
+}
+
+// TakesLines one byte: LF ends the line, which is taken; any other byte is appended to it.
 fn take_byte<S: Session, W: Write>(
     alloc: Global,
     session: &mut S,
+    waiting: &mut S::Waiting,
     line: &mut InputLine,
     b: u8,
+    may_wait: bool,
     writer: &mut W,
 ) -> Result<u64, EditorError>
-    ensures feeds { (part : List ℕ) → IsBegun line.old part
-        → Feeds (Replies S.answers S.lacks) result session.old session.new
-        part (b ∷ []) line.new (W.contents writer.old) (W.contents writer.new) }
+    requires { (lines : List (List ℕ)) × S.waits session.old waiting.old lines }
+    ensures feeds { (lines : List (List ℕ)) (part : List ℕ)
+        → S.waits session.old waiting.old lines → IsBegun line.old part
+        → Feeds S.goes (S.waits session.new waiting.new) result session.old session.new
+        lines part (b ∷ []) line.new (W.contents writer.old) (W.contents writer.new) }
+    ensures left { OnOk result
+        ((lines : List (List ℕ)) × S.waits session.new waiting.new lines) }
     ensures few { IfOk result (λ n. n ≤ 1) }
 {
     if b != b'\n' {
         line.push(b);
         return Ok(0);
     }
-    match session.answer(alloc, line.as_slice(), writer) {
+    match session.take(alloc, waiting, line.as_slice(), may_wait, writer) {
         Ok(()) => {
             line.clear();
             Ok(1)
@@ -72,22 +112,27 @@ fn take_byte<S: Session, W: Write>(
     }
 }
 
-// Takes more bytes: answers each line that they end, and keeps the bytes after the last LF.
+// TakesLines more bytes: each line that they end, and keeps the bytes after the last LF.
 fn feed<S: Session, W: Write>(
     alloc: Global,
     session: &mut S,
+    waiting: &mut S::Waiting,
     line: &mut InputLine,
     bytes: &[u8],
     writer: &mut W,
 ) -> Result<u64, EditorError>
+    requires { S.waits session.old waiting.old [] }
     ensures feeds { (part : List ℕ) → IsBegun line.old part
-        → Feeds (Replies S.answers S.lacks) result session.old session.new
-        part bytes.now line.new (W.contents writer.old) (W.contents writer.new) }
+        → Feeds S.goes (S.waits session.new waiting.new) result session.old session.new
+        [] part bytes.now line.new (W.contents writer.old) (W.contents writer.new) }
+    ensures left { OnOk result
+        ((lines : List (List ℕ)) × S.waits session.new waiting.new lines) }
     ensures few { IfOk result (λ n. n ≤ length bytes.now) }
 {
+    let may_wait = ends_several(bytes);
     let mut answered: u64 = 0;
     for b in bytes {
-        match take_byte(alloc, session, line, *b, writer) {
+        match take_byte(alloc, session, waiting, line, *b, may_wait, writer) {
             Ok(count) => answered += count,
             Err(error) => return Err(error),
         }
@@ -95,7 +140,7 @@ fn feed<S: Session, W: Write>(
     Ok(answered)
 }
 
-// Takes the bytes of one turn, and flushes the answers.
+// TakesLines the bytes of one turn, and flushes the answers.
 fn take_turn<S: Session, W: Write>(
     alloc: Global,
     session: &mut S,
@@ -104,12 +149,17 @@ fn take_turn<S: Session, W: Write>(
     writer: &mut W,
 ) -> Result<u64, EditorError>
     ensures feeds { (part : List ℕ) → IsBegun line.old part
-        → Feeds (Replies S.answers S.lacks) result session.old session.new
-        part bytes.now line.new (W.contents writer.old) (W.contents writer.new) }
+        → Feeds S.goes none_waits result session.old session.new
+        [] part bytes.now line.new (W.contents writer.old) (W.contents writer.new) }
     ensures few { IfOk result (λ n. n ≤ length bytes.now) }
 {
-    match feed(alloc, session, line, bytes, writer) {
-        Ok(count) => match flush(writer) {
+    let mut waiting = S::none_waiting();
+    let count = match feed(alloc, session, &mut waiting, line, bytes, writer) {
+        Ok(count) => count,
+        Err(error) => return Err(error),
+    };
+    match session.settle(waiting, writer) {
+        Ok(()) => match flush(writer) {
             Ok(()) => Ok(count),
             Err(error) => Err(error),
         },
@@ -126,8 +176,8 @@ pub fn run_lines<S: Session, R: Read, W: Write>(
     writer: &mut W,
     turns: u32,
 ) -> Result<u64, EditorError>
-    ensures { (trace : List (Exchange S))
-        × Ran (Replies S.answers S.lacks) session.old session.new trace turns result
+    ensures { (trace : List Exchange)
+        × Ran S.goes session.old session.new trace turns result
         (R.remaining reader.old) (R.remaining reader.new)
         (W.contents writer.old) (W.contents writer.new) }
 {

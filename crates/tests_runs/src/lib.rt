@@ -10,6 +10,8 @@ mod editor;
 #[cfg(test)]
 mod expect;
 #[cfg(test)]
+mod groups;
+#[cfg(test)]
 mod project_run;
 #[cfg(test)]
 mod scripts;

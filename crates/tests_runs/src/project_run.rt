@@ -60,12 +60,13 @@ fn answers_no_line_after_a_fault(rt: HostRuntime) -> Result<(), Fail> {
     Ok(())
 }
 
-// The device call that fails, what a run over the project writes, and how many vertices the project then has.
+// The device call that fails, what a run over the project writes, and how many vertices the project then has. The lines
+// before the query are put together, by four calls, and the one behind it by four others.
 const RUNS: &[(u64, &[u8], u32)] = &[
+    (9, b"no 30\nno 32\nno 32\nno 32\n", 0),
     (12, b"no 30\nno 32\nno 32\nno 32\n", 0),
-    (13, b"ok 0\nno 30\nno 32\nno 32\n", 1),
     (
-        17,
+        13,
         b"ok 0\nok 1\nvertices 2 sectors 0 sides 0 lines 0 things 0\nno 30\n",
         2,
     ),
@@ -119,11 +120,11 @@ fn kept_after(alloc: Global, input: &[u8], room: usize) -> Result<[u32; 2], Fail
     Ok([kept, found(alloc, project.into_disk())?.0])
 }
 
-// Input, how many bytes the writer takes, and how many lines are kept. The last one kept is the line whose answer
+// Input, how many bytes the writer takes, and how many lines are kept: those that were put with the one whose answer
 // couldn't be written.
 const KEPT: &[(&[u8], usize, u32)] = &[
-    (b"vertex 1 0\nvertex 2 0\nvertex 3 0\n", 7, 2),
-    (b"vertex 0 0\nvertex 128 0\nhex VERTEXES\n", 2, 1),
+    (b"vertex 1 0\nvertex 2 0\nvertex 3 0\n", 7, 3),
+    (b"vertex 0 0\nvertex 128 0\nhex VERTEXES\n", 2, 2),
 ];
 
 #[test]

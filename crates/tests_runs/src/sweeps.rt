@@ -314,7 +314,7 @@ fn input(alloc: Global) -> Result<Vec<u8>, Fail> {
     Ok(text)
 }
 
-// The answers of a run if a call fails during line `n`.
+// The answers of a run if a call fails while line `n` and those behind it are put.
 fn answers(alloc: Global, n: usize) -> Result<Vec<u8>, Fail> {
     let mut text = Vec::new(alloc);
     let mut at = 0_usize;
@@ -331,11 +331,10 @@ fn answers(alloc: Global, n: usize) -> Result<Vec<u8>, Fail> {
     Ok(text)
 }
 
-// The line during which each call of a run fails, in turn: each of the five accepted commands makes four calls.
+// The first line of those that are put while each call of a run fails, in turn: the queries part the commands into
+// three groups, which make four calls each.
 #[rattlefmt::skip]
-const FAILED: &[usize] = &[
-    0, 0, 0, 0, 2, 2, 2, 2, 3, 3, 3, 3, 5, 5, 5, 5, 7, 7, 7, 7, 8, 8, 8, 8,
-];
+const FAILED: &[usize] = &[0, 0, 0, 0, 2, 2, 2, 2, 7, 7, 7, 7, 8, 8, 8, 8];
 
 // What a run over a disk writes whose k-th call fails.
 fn told(alloc: Global, lines: &[u8], k: u64, part: u32) -> Result<Vec<u8>, Fail> {

@@ -1,6 +1,6 @@
 use Rattle.std.proofs.Common.{[], ◌≤◌, ◌*◌, length, List, ℕ, Ok}
 use Rattle.std.specs.Io.KnownBytes.{Consumes}
-use Rattle.run_edit.specs.Runs.{Feeds, Replies}
+use Rattle.run_edit.specs.Runs.{Feeds, none_waits}
 use Rattle.run_edit.proofs.reading.run_lines.Given as goal
 
 -- some bytes have been read, and taken
@@ -13,6 +13,6 @@ invariant-loop g l =
       few : l.answered ≤ 4096 * l.counter;
       short : length read ≤ 4096 * l.counter;
       fed :
-          Feeds (Replies g.S.Session.answers g.S.Session.lacks) (Ok l.answered) l.fn.session l.session [] read l.line
+          Feeds g.S.Session.goes none_waits (Ok l.answered) l.fn.session l.session [] [] read l.line
           (g.W.Write.contents l.fn.writer) (g.W.Write.contents l.writer);
     }

@@ -2,12 +2,12 @@ use Rattle.std.proofs.Common.{subst, List, ℕ}
 use Rattle.run_edit.specs.Texts.{outcome_text}
 use Rattle.run_edit.specs.Editing.{RepliesInProject}
 use Rattle.run_edit.proofs.EditingLines.{long_line, replies_change, replies_query}
-use Rattle.run_edit.proofs.editing.ProjectSession.answer.Goals as goal
+use Rattle.run_edit.proofs.editing.answer_line.Goals as goal
 
 pub returns-in_default : goal.returns-in_default
 returns-in_default g c = λ whole is.
     let facts = g.D.Disk in
-    let old = c.args.self.now in
+    let old = c.args.project.now in
     let new = c.change-outcome.new.project in
     let outcome = c.change-outcome.result in
     let text = outcome_text outcome in
@@ -21,7 +21,7 @@ returns-in_default g c = λ whole is.
 pub returns : goal.returns
 returns g c = λ whole is.
     let facts = g.D.Disk in
-    let m = c.args.self.now in
+    let m = c.args.project.now in
     let text = c.answer_query.ensures.0 in
     let told = replies_query facts m c.args.line.now text c.in-Some.query c.in-Some.ensures c.answer_query.ensures.1 in (
       text,

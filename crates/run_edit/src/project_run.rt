@@ -1,0 +1,143 @@
+//! A run over a project file: the session of `edit`. The commands of a turn go to the disk together.
+ghost use Rattle.std.specs.Prelude.{◌≡◌, ℕ, List, is_ok};
+ghost use Rattle.std.specs.List.{list_any};
+ghost use Rattle.store_project.specs.Groups.{IsGroupFor};
+ghost use Rattle.run_edit.specs.Editing.{told_of};
+ghost use Rattle.run_edit.specs.Groups.{IsWaiting, Waits, exchanges, as_answered};
+ghost use Rattle.run_edit.specs.Runs.{Exchange, IsTrace, Ran, TakesLines, none_waits};
+ghost use Rattle.run_edit.specs.Sessions.{GoesOver, RunsOver};
+ghost use Rattle.run_edit.specs.Told.{RepliesTold};
+ghost use Rattle.run_edit.specs.Composing.{goes_none, goes_behind};
+
+use crate::batch::{Batch, hold, is_full};
+use crate::editing::answer_line;
+use crate::error::EditorError;
+use crate::fate::{Fate, write_settled};
+use crate::reading::run_lines;
+use crate::session::Session;
+use std::alloc::Global;
+use std::io::{Read, Write};
+use store_disk::Disk;
+use store_project::{Project, ProjectGroup};
+
+// Whether a line was accepted.
+fn any_accepted(outcomes: &[Result<u32, u16>]) -> bool
+    ensures { result ≡ list_any is_ok outcomes.now }
+{
+    outcomes.iter().any(|outcome| outcome.is_ok())
+}
+
+// Puts the group of lines with these outcomes on the disk, if any of them was accepted.
+fn put<D: Disk>(
+    project: &mut Project<D>,
+    group: ProjectGroup,
+    outcomes: &[Result<u32, u16>],
+) -> Fate
+    requires { IsGroupFor project.old group }
+    ensures { (batch : Batch) (lines : List (List ℕ)) → batch.group ≡ group
+        → batch.outcomes ≡ outcomes.now → (waits : IsWaiting project.old batch lines)
+        → GoesOver D.Disk project.old (exchanges (as_answered result waits.decided)) project.new }
+{
+    if any_accepted(outcomes) {
+        match project.put(group) {
+            Ok(()) => Fate::Kept,
+            Err(_) => Fate::Lost,
+        }
+    } else {
+        Fate::Kept
+    }
+}
+
+// Puts the lines of a batch on the disk, and writes their answers.
+fn settle_batch<D: Disk, W: Write>(
+    project: &mut Project<D>,
+    batch: Batch,
+    writer: &mut W,
+) -> Result<(), EditorError>
+    requires { IsGroupFor project.old batch.group }
+    ensures { (lines : List (List ℕ)) → IsWaiting project.old batch lines
+        → TakesLines (GoesOver D.Disk) none_waits result project.old project.new lines
+        (W.contents writer.old) (W.contents writer.new) }
+{
+    let Batch { group, outcomes } = batch;
+    let decided = outcomes.as_slice();
+    let fate = put(project, group, decided);
+    write_settled(fate, decided, writer)
+}
+
+impl<D: Disk> Session for Project<D> {
+    type Waiting = Option<Batch>;
+
+    ghost goes = { GoesOver D.Disk };
+
+    ghost waits = { Waits };
+
+    fn none_waiting() -> Option<Batch> {
+        None
+    }
+
+    fn take<W: Write>(
+        &mut self,
+        alloc: Global,
+        waiting: &mut Option<Batch>,
+        line: &[u8],
+        may_wait: bool,
+        writer: &mut W,
+    ) -> Result<(), EditorError> {
+        if hold(self, waiting, line, may_wait) {
+            if is_full(waiting) {
+                self.settle(waiting.take(), writer)
+            } else {
+                Ok(())
+            }
+        } else {
+            match self.settle(waiting.take(), writer) {
+                Ok(()) => answer_line(alloc, self, line, writer),
+                Err(error) => Err(error),
+            }
+        }
+    }
+
+    fn settle<W: Write>(
+        &mut self,
+        waiting: Option<Batch>,
+        writer: &mut W,
+    ) -> Result<(), EditorError> {
+        match waiting {
+            Some(batch) => settle_batch(self, batch, writer),
+            None => Ok(()),
+        }
+    }
+
+    ghost none = { λ session. goes_none _ session };
+
+    ghost then_more = { λ old mid new xs ys. goes_behind _ old mid new xs ys };
+}
+
+/// Answers the lines of the reader over a project, and returns how many lines it answered. It makes at most `turns`
+/// reads of at most 4,096 bytes each, and flushes the writer after each of these turns.
+///
+/// After a line that was answered `no 30`, every line is answered `no 32`, queries too, until the file is reopened.
+///
+/// # Errors
+///
+/// - `InputTooLong` if that many reads don't reach the end of the input, and `ReaderFailed`: every line that was read
+///   whole has been answered, and the rest is dropped.
+/// - `WriterFailed`: no further line was answered.
+pub fn run<D: Disk, R: Read, W: Write>(
+    alloc: Global,
+    project: &mut Project<D>,
+    reader: &mut R,
+    writer: &mut W,
+    turns: u32,
+) -> Result<u64, EditorError>
+    ensures { (trace : List Exchange)
+        × Ran (IsTrace RepliesTold) (told_of project.old) (told_of project.new) trace turns result
+        (R.remaining reader.old) (R.remaining reader.new)
+        (W.contents writer.old) (W.contents writer.new)
+        × RunsOver D.Disk project.old project.new trace }
+{
+    // Only for its contract: it says what each image stands for as the run begins.
+    let _ = project.must_reopen();
+    run_lines(alloc, project, reader, writer, turns)
+}
