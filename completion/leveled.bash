@@ -5,11 +5,17 @@ _leveled() {
         mapfile -t COMPREPLY < <(compgen -W 'scratch create edit check lint draw dump picture build rebuild inspect help --help --version' -- "$word")
         return
     fi
+    case ${COMP_WORDS[COMP_CWORD-1]} in
+    --only | --except)
+        mapfile -t COMPREPLY < <(compgen -W 'check no-start start-twice few-deathmatch-starts ceiling-below-floor tag-missing tag-of-no-sector tag-of-no-line line-special-unknown sector-special-unknown thing-type-unknown texture-hidden sector-inside-out line-crossed thing-outside door-without-back donut-without-back too-many-scrolls teleport-nowhere no-exit key-missing too-many-neighbours thing-stuck flat-unknown texture-unknown texture-short' -- "$word")
+        return
+        ;;
+    esac
     case $word in
     -*)
         local flags=--help
         [ "$subcommand" = create ] && flags='--slot --journal --help'
-        [ "$subcommand" = lint ] && flags='--iwad --help'
+        [ "$subcommand" = lint ] && flags='--iwad --only --except --help'
         [ "$subcommand" = dump ] && flags='--exact --salvage --help'
         [ "$subcommand" = draw ] && flags='--check --verbose --help'
         [ "$subcommand" = picture ] && flags='--out --numbers --nodes --lint --help'

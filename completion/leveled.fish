@@ -1,4 +1,5 @@
 # Completes the arguments of leveled in fish.
+set -l rules check no-start start-twice few-deathmatch-starts ceiling-below-floor tag-missing tag-of-no-sector tag-of-no-line line-special-unknown sector-special-unknown thing-type-unknown texture-hidden sector-inside-out line-crossed thing-outside door-without-back donut-without-back too-many-scrolls teleport-nowhere no-exit key-missing too-many-neighbours thing-stuck flat-unknown texture-unknown texture-short
 set -l subcommands scratch create edit check lint draw dump picture build rebuild inspect help
 complete -c leveled -n "not __fish_seen_subcommand_from $subcommands" -f -a scratch -d 'Answer commands, with maps in memory only'
 complete -c leveled -n "not __fish_seen_subcommand_from $subcommands" -f -a create -d 'Make a project file'
@@ -17,6 +18,8 @@ complete -c leveled -l help -d 'Print the help'
 complete -c leveled -n "__fish_seen_subcommand_from create" -l slot -x -d 'Length of a slot in bytes'
 complete -c leveled -n "__fish_seen_subcommand_from create" -l journal -x -d 'Length of a journal in bytes'
 complete -c leveled -n "__fish_seen_subcommand_from lint" -l iwad -r -d 'Also print the flats and textures that a WAD lacks'
+complete -c leveled -n "__fish_seen_subcommand_from lint" -l only -x -a "$rules" -d 'Print only the lines with this word'
+complete -c leveled -n "__fish_seen_subcommand_from lint" -l except -x -a "$rules" -d 'Leave out the lines with this word'
 complete -c leveled -n "__fish_seen_subcommand_from dump" -l exact -d 'Leave out levels that need a change'
 complete -c leveled -n "__fish_seen_subcommand_from dump" -l salvage -d 'Print what can be read of a damaged project'
 complete -c leveled -n "__fish_seen_subcommand_from draw" -l check -d 'Try a script on maps in memory'

@@ -9,7 +9,7 @@ use Rattle.std.proofs.lemmas.List.{take-append-drop, take_more}
 use Rattle.map_dump.specs.Texts.{with_lf, text_of}
 use Rattle.lump_records.specs.Names.{name_text}
 use Rattle.lump_records.specs.declared.records.Name8.{Name8}
-use Rattle.wad_levels.specs.Graphics.{GraphicNames}
+use Rattle.cli_print.specs.Choosing.{LintWants}
 use Rattle.wad_levels.specs.Listing.{entry_name}
 use Rattle.wad_levels.specs.declared.entries.LevelEntries.{LevelEntries}
 use Rattle.wad_import.specs.Refused.{RefusesLevelImport}
@@ -35,54 +35,54 @@ use Rattle.cli_print.proofs.Linting.{none_written, total_told}
 abbrev pub no_map_line : Name8 → ImportError → List ℕ
 no_map_line name e = map shown (name_text name) ++ no_map_text e
 
-lines_by : (names : Option GraphicNames) (wad : List ℕ) (l : LevelEntries) (o : Option ImportError) → map_refusal wad l ≡ o → (lines : List (List ℕ)) × AreLevelLines names wad l lines
-lines_by names wad l None is = (remarks names (level_map wad l), inl (is, refl))
-lines_by names wad l (Some e) is = (no_map_line (entry_name wad l.marker) e ∷ [], inr (e, is, refl))
+lines_by : (wants : LintWants) (wad : List ℕ) (l : LevelEntries) (o : Option ImportError) → map_refusal wad l ≡ o → (lines : List (List ℕ)) × AreLevelLines wants wad l lines
+lines_by wants wad l None is = (remarks wants (level_map wad l), inl (is, refl))
+lines_by wants wad l (Some e) is = (no_map_line (entry_name wad l.marker) e ∷ [], inr (e, is, refl))
 
 -- of each level there is something to say, or it has no lines
-pub some_lines : (names : Option GraphicNames) (wad : List ℕ) (l : LevelEntries) → (lines : List (List ℕ)) × AreLevelLines names wad l lines
-some_lines names wad l = lines_by names wad l (map_refusal wad l) refl
+pub some_lines : (wants : LintWants) (wad : List ℕ) (l : LevelEntries) → (lines : List (List ℕ)) × AreLevelLines wants wad l lines
+some_lines wants wad l = lines_by wants wad l (map_refusal wad l) refl
 
 -- the line of a level that is no map was told
-pub refusal_told : (names : Option GraphicNames) (wad : List ℕ) (l : LevelEntries) (r : Result ℕ EditorError) (before : ℕ) (name : Name8) (e : ImportError) (u w : Option (List ℕ)) → name ≡ entry_name wad l.marker
-    → RefusesLevelImport wad l (entry_name wad l.marker) e → e ≢ import.OutOfMemory → WritesRemarks r before (no_map_line name e ∷ []) u w → WritesLevel names wad l r before u w
-refusal_told names wad l r before name e u w is (inl lacks) some told = absurd (some lacks)
-refusal_told names wad l r before name e u w is (inr why) some told =
+pub refusal_told : (wants : LintWants) (wad : List ℕ) (l : LevelEntries) (r : Result ℕ EditorError) (before : ℕ) (name : Name8) (e : ImportError) (u w : Option (List ℕ)) → name ≡ entry_name wad l.marker
+    → RefusesLevelImport wad l (entry_name wad l.marker) e → e ≢ import.OutOfMemory → WritesRemarks r before (no_map_line name e ∷ []) u w → WritesLevel wants wad l r before u w
+refusal_told wants wad l r before name e u w is (inl lacks) some told = absurd (some lacks)
+refusal_told wants wad l r before name e u w is (inr why) some told =
     (no_map_line (entry_name wad l.marker) e ∷ [], inr (e, why, refl), subst (λ (n : Name8). WritesRemarks r before (no_map_line n e ∷ []) u w) is told)
 
 -- no memory was found for the map of a level
-pub level_lost : (names : Option GraphicNames) (wad : List ℕ) (l : LevelEntries) (before : ℕ) (u : Option (List ℕ)) → WritesLevel names wad l (Err OutOfMemory) before u u
-level_lost names wad l before u = let some = some_lines names wad l in (some.0, some.1, none_written OutOfMemory before some.0 u refl)
+pub level_lost : (wants : LintWants) (wad : List ℕ) (l : LevelEntries) (before : ℕ) (u : Option (List ℕ)) → WritesLevel wants wad l (Err OutOfMemory) before u u
+level_lost wants wad l before u = let some = some_lines wants wad l in (some.0, some.1, none_written OutOfMemory before some.0 u refl)
 
 -- ---- The levels
 
-all_lines : (names : Option GraphicNames) (wad : List ℕ) (ls : List LevelEntries) → (lines : List (List ℕ)) × AreLinesOf names wad ls lines
-all_lines names wad [] = ([], refl)
-all_lines names wad (l ∷ ls) =
-    let one = some_lines names wad l in
-    let rest = all_lines names wad ls in
+all_lines : (wants : LintWants) (wad : List ℕ) (ls : List LevelEntries) → (lines : List (List ℕ)) × AreLinesOf wants wad ls lines
+all_lines wants wad [] = ([], refl)
+all_lines wants wad (l ∷ ls) =
+    let one = some_lines wants wad l in
+    let rest = all_lines wants wad ls in
     (one.0 ++ rest.0, (one.0, rest.0, refl, one.1, rest.1))
 
-joined : (names : Option GraphicNames) (wad : List ℕ) (ls ks : List LevelEntries) (lines more : List (List ℕ)) → AreLinesOf names wad ls lines → AreLinesOf names wad ks more
-    → AreLinesOf names wad (ls ++ ks) (lines ++ more)
-joined names wad [] ks lines more none are = subst (λ (t : List (List ℕ)). AreLinesOf names wad ks (t ++ more)) (sym none) are
-joined names wad (l ∷ ls) ks lines more (first, rest, parted, told, are) also =
-    (first, rest ++ more, ap (λ (t : List (List ℕ)). t ++ more) parted ∙ append_assoc first rest more, told, joined names wad ls ks rest more are also)
+joined : (wants : LintWants) (wad : List ℕ) (ls ks : List LevelEntries) (lines more : List (List ℕ)) → AreLinesOf wants wad ls lines → AreLinesOf wants wad ks more
+    → AreLinesOf wants wad (ls ++ ks) (lines ++ more)
+joined wants wad [] ks lines more none are = subst (λ (t : List (List ℕ)). AreLinesOf wants wad ks (t ++ more)) (sym none) are
+joined wants wad (l ∷ ls) ks lines more (first, rest, parted, told, are) also =
+    (first, rest ++ more, ap (λ (t : List (List ℕ)). t ++ more) parted ∙ append_assoc first rest more, told, joined wants wad ls ks rest more are also)
 
-alone : (names : Option GraphicNames) (wad : List ℕ) (l : LevelEntries) (one : List (List ℕ)) → AreLevelLines names wad l one → AreLinesOf names wad (l ∷ []) one
-alone names wad l one told = (one, [], sym (append-nil one), told, refl)
+alone : (wants : LintWants) (wad : List ℕ) (l : LevelEntries) (one : List (List ℕ)) → AreLevelLines wants wad l one → AreLinesOf wants wad (l ∷ []) one
+alone wants wad l one told = (one, [], sym (append-nil one), told, refl)
 
 -- this has been said of levels, and counted
-abbrev pub HasSaidOf : Option GraphicNames → List ℕ → List LevelEntries → ℕ → Option (List ℕ) → Option (List ℕ) → Type 0
-HasSaidOf names wad ls count u w = (lines : List (List ℕ)) × AreLinesOf names wad ls lines × (count ≡ length lines) × Appends u w (text_of lines)
+abbrev pub HasSaidOf : LintWants → List ℕ → List LevelEntries → ℕ → Option (List ℕ) → Option (List ℕ) → Type 0
+HasSaidOf wants wad ls count u w = (lines : List (List ℕ)) × AreLinesOf wants wad ls lines × (count ≡ length lines) × Appends u w (text_of lines)
 
-pub levels_more : (names : Option GraphicNames) (wad : List ℕ) (ls : List LevelEntries) (n : ℕ) (d : LevelEntries) (before sum : ℕ) (u v w : Option (List ℕ)) → n < length ls
-    → HasSaidOf names wad (take n ls) before u v → WritesLevel names wad (get_or ls n d) (Ok sum) before v w → HasSaidOf names wad (take (n + 1) ls) sum u w
-levels_more names wad ls n d before sum u v w within (lines, are, count, said) (one, told, (more, line)) =
+pub levels_more : (wants : LintWants) (wad : List ℕ) (ls : List LevelEntries) (n : ℕ) (d : LevelEntries) (before sum : ℕ) (u v w : Option (List ℕ)) → n < length ls
+    → HasSaidOf wants wad (take n ls) before u v → WritesLevel wants wad (get_or ls n d) (Ok sum) before v w → HasSaidOf wants wad (take (n + 1) ls) sum u w
+levels_more wants wad ls n d before sum u v w within (lines, are, count, said) (one, told, (more, line)) =
     let l = get_or ls n d in (
       lines ++ one,
-      subst (λ (ks : List LevelEntries). AreLinesOf names wad ks (lines ++ one)) (sym (take_more ls n d within))
-          (joined names wad (take n ls) (l ∷ []) lines one are (alone names wad l one told)),
+      subst (λ (ks : List LevelEntries). AreLinesOf wants wad ks (lines ++ one)) (sym (take_more ls n d within))
+          (joined wants wad (take n ls) (l ∷ []) lines one are (alone wants wad l one told)),
       omega (arith, count, more, length-append lines one),
       subst (λ (t : List ℕ). Appends u w t) (sym (flat_map-append with_lf lines one)) (Appends-trans u v w (text_of lines) (text_of one) said line),
     )
@@ -105,27 +105,27 @@ stopped done one rest before OutOfMemory u v w said told =
           (Appends-trans u v w (text_of done) (text_of told.front) said told.written);
     }
 
-pub levels_stopped : (names : Option GraphicNames) (wad : List ℕ) (ls : List LevelEntries) (n : ℕ) (d : LevelEntries) (before : ℕ) (e : EditorError) (u v w : Option (List ℕ)) → n < length ls
-    → HasSaidOf names wad (take n ls) before u v → WritesLevel names wad (get_or ls n d) (Err e) before v w
-    → (lines : List (List ℕ)) × AreLinesOf names wad ls lines × WritesRemarks (Err e) 0 lines u w
-levels_stopped names wad ls n d before e u v w within (lines, are, count, said) (one, told, lost) =
+pub levels_stopped : (wants : LintWants) (wad : List ℕ) (ls : List LevelEntries) (n : ℕ) (d : LevelEntries) (before : ℕ) (e : EditorError) (u v w : Option (List ℕ)) → n < length ls
+    → HasSaidOf wants wad (take n ls) before u v → WritesLevel wants wad (get_or ls n d) (Err e) before v w
+    → (lines : List (List ℕ)) × AreLinesOf wants wad ls lines × WritesRemarks (Err e) 0 lines u w
+levels_stopped wants wad ls n d before e u v w within (lines, are, count, said) (one, told, lost) =
     let l = get_or ls n d in
-    let rest = all_lines names wad (drop (n + 1) ls) in
+    let rest = all_lines wants wad (drop (n + 1) ls) in
     let whole : (take n ls ++ l ∷ []) ++ drop (n + 1) ls ≡ ls =
     ap (λ (ks : List LevelEntries). ks ++ drop (n + 1) ls) (sym (take_more ls n d within)) ∙ take-append-drop (n + 1) ls in (
       (lines ++ one) ++ rest.0,
-      subst (λ (ks : List LevelEntries). AreLinesOf names wad ks ((lines ++ one) ++ rest.0)) whole
-          (joined names wad (take n ls ++ l ∷ []) (drop (n + 1) ls) (lines ++ one) rest.0
-          (joined names wad (take n ls) (l ∷ []) lines one are (alone names wad l one told)) rest.1),
+      subst (λ (ks : List LevelEntries). AreLinesOf wants wad ks ((lines ++ one) ++ rest.0)) whole
+          (joined wants wad (take n ls ++ l ∷ []) (drop (n + 1) ls) (lines ++ one) rest.0
+          (joined wants wad (take n ls) (l ∷ []) lines one are (alone wants wad l one told)) rest.1),
       stopped lines one rest.0 before e u v w said lost,
     )
 
 -- ---- The request
 
-pub levels_told : (names : Option GraphicNames) (wad : List ℕ) (name : Option (List ℕ)) (ls : List LevelEntries) (count status : ℕ) (u v w x : Option (List ℕ)) → AreWanted wad name ls
-    → ((lines : List (List ℕ)) × AreLinesOf names wad ls lines × WritesRemarks (Ok count) 0 lines u v) → status ≡ status_after count → Appends v w (total_text count) → Keeps w x
-    → IsWadLintedOf names wad name (Ok status) u x
-levels_told names wad name ls count status u v w x wanted (lines, are, told) is total kept = (ls, lines, wanted, are, total_told lines count status u v w x is told total kept)
+pub levels_told : (wants : LintWants) (wad : List ℕ) (name : Option (List ℕ)) (ls : List LevelEntries) (count status : ℕ) (u v w x : Option (List ℕ)) → AreWanted wad name ls
+    → ((lines : List (List ℕ)) × AreLinesOf wants wad ls lines × WritesRemarks (Ok count) 0 lines u v) → status ≡ status_after count → Appends v w (total_text count) → Keeps w x
+    → IsWadLintedOf wants wad name (Ok status) u x
+levels_told wants wad name ls count status u v w x wanted (lines, are, told) is total kept = (ls, lines, wanted, are, total_told lines count status u v w x is told total kept)
 
 -- ---- Findings
 

@@ -15,8 +15,8 @@ use Rattle.map_lint.specs.Rules.{warnings}
 use Rattle.map_lint.specs.Texts.{warning_text}
 use Rattle.map_lint.specs.declared.warning.Warning.{Warning}
 use Rattle.map_dump.specs.Texts.{WritesFront, with_lf, text_of}
-use Rattle.wad_levels.specs.Graphics.{GraphicNames}
-use Rattle.cli_print.specs.Linting.{AreTold, WritesRemarks, behind, lint_of, remarks, warned_by}
+use Rattle.cli_print.specs.Choosing.{LintWants, chosen_findings}
+use Rattle.cli_print.specs.Linting.{AreTold, WritesRemarks, behind, lint_of, remarks, wanted_warnings}
 use Rattle.cli_refusals.specs.Statuses.{status_after}
 use Rattle.run_edit.specs.Texts.{total_text}
 use Rattle.run_edit.specs.declared.error.EditorError.{EditorError}
@@ -42,35 +42,35 @@ line_more {X} name text xs n x u v w within is said line =
 
 -- ---- A map
 
--- the warnings of a map, with those of its flats and textures
-abbrev pub all_warnings : Option GraphicNames → Tables → List Warning
-all_warnings names m = warnings m ++ warned_by names m
+-- the findings of a map that are asked for
+abbrev pub wanted_findings : LintWants → Tables → List Finding
+wanted_findings wants m = chosen_findings wants.words (findings m)
 
-text-remarks : (names : Option GraphicNames) (m : Tables)
-    → lines_behind (name_text m.name) finding_text (findings m) ++ lines_behind (name_text m.name) warning_text (all_warnings names m) ≡ text_of (remarks names m)
-text-remarks names m =
+text-remarks : (wants : LintWants) (m : Tables)
+    → lines_behind (name_text m.name) finding_text (wanted_findings wants m) ++ lines_behind (name_text m.name) warning_text (wanted_warnings wants m) ≡ text_of (remarks wants m)
+text-remarks wants m =
     let name = name_text m.name in
-    let found = map finding_text (findings m) in
-    let warned = map warning_text (all_warnings names m) in
-    (λ i. lines-behind name finding_text (findings m) i ++ lines-behind name warning_text (all_warnings names m) i)
+    let found = map finding_text (wanted_findings wants m) in
+    let warned = map warning_text (wanted_warnings wants m) in
+    (λ i. lines-behind name finding_text (wanted_findings wants m) i ++ lines-behind name warning_text (wanted_warnings wants m) i)
     ∙ sym (ap text_of (map-append (behind name) found warned) ∙ flat_map-append with_lf (map (behind name) found) (map (behind name) warned))
 
-length-remarks : (names : Option GraphicNames) (m : Tables) → length (remarks names m) ≡ length (findings m) + length (all_warnings names m)
-length-remarks names m =
-    let found = map finding_text (findings m) in
-    let warned = map warning_text (all_warnings names m) in
+length-remarks : (wants : LintWants) (m : Tables) → length (remarks wants m) ≡ length (wanted_findings wants m) + length (wanted_warnings wants m)
+length-remarks wants m =
+    let found = map finding_text (wanted_findings wants m) in
+    let warned = map warning_text (wanted_warnings wants m) in
     length-map (found ++ warned) (behind (name_text m.name)) ∙ length-append found warned
-    ∙ (λ i. length-map (findings m) finding_text i + length-map (all_warnings names m) warning_text i)
+    ∙ (λ i. length-map (wanted_findings wants m) finding_text i + length-map (wanted_warnings wants m) warning_text i)
 
 -- what is found in a map was written
-pub map_written : (names : Option GraphicNames) (m : Tables) (name : List ℕ) (found : List Finding) (warned : List Warning) (before count : ℕ) (u w : Option (List ℕ))
-    → name ≡ name_text m.name → found ≡ findings m → warned ≡ all_warnings names m → count ≡ before + length found + length warned
-    → Appends u w (lines_behind name finding_text found ++ lines_behind name warning_text warned) → WritesRemarks (Ok count) before (remarks names m) u w
-map_written names m name found warned before count u w named is are sum told =
+pub map_written : (wants : LintWants) (m : Tables) (name : List ℕ) (found : List Finding) (warned : List Warning) (before count : ℕ) (u w : Option (List ℕ))
+    → name ≡ name_text m.name → found ≡ wanted_findings wants m → warned ≡ wanted_warnings wants m → count ≡ before + length found + length warned
+    → Appends u w (lines_behind name finding_text found ++ lines_behind name warning_text warned) → WritesRemarks (Ok count) before (remarks wants m) u w
+map_written wants m name found warned before count u w named is are sum told =
     let all = lines_behind name finding_text found ++ lines_behind name warning_text warned in
-    let same : all ≡ text_of (remarks names m) =
-    (λ i. lines_behind (named i) finding_text (is i) ++ lines_behind (named i) warning_text (are i)) ∙ text-remarks names m in (
-      omega (arith, sum, length-remarks names m, ap length is, ap length are),
+    let same : all ≡ text_of (remarks wants m) =
+    (λ i. lines_behind (named i) finding_text (is i) ++ lines_behind (named i) warning_text (are i)) ∙ text-remarks wants m in (
+      omega (arith, sum, length-remarks wants m, ap length is, ap length are),
       subst (λ (t : List ℕ). Appends u w t) same told,
     )
 
@@ -85,50 +85,50 @@ pub none_there : (o : Option Tables) (m : Tables) → o ≡ None → o ≡ Some 
 none_there o m none some = cc
 
 -- the map of a number is one map
-pub remarks_told : (names : Option GraphicNames) (r : Result ℕ EditorError) (o : Option Tables) (before : ℕ) (m : Tables) (u w : Option (List ℕ)) → o ≡ Some m
-    → WritesRemarks r before (remarks names m) u w → (t : Tables) → o ≡ Some t → WritesRemarks r before (remarks names t) u w
-remarks_told names r o before m u w is told t at =
+pub remarks_told : (wants : LintWants) (r : Result ℕ EditorError) (o : Option Tables) (before : ℕ) (m : Tables) (u w : Option (List ℕ)) → o ≡ Some m
+    → WritesRemarks r before (remarks wants m) u w → (t : Tables) → o ≡ Some t → WritesRemarks r before (remarks wants t) u w
+remarks_told wants r o before m u w is told t at =
     let same : m ≡ t = cc in
-    subst (λ (k : Tables). WritesRemarks r before (remarks names k) u w) same told
+    subst (λ (k : Tables). WritesRemarks r before (remarks wants k) u w) same told
 
 -- ---- The maps
 
-remarks-more : (names : Option GraphicNames) (ms : List Tables) (n : ℕ) → n < length ms → lint_of names (take (n + 1) ms) ≡ lint_of names (take n ms) ++ remarks names (get_or ms n empty_tables)
-remarks-more names ms n within =
+remarks-more : (wants : LintWants) (ms : List Tables) (n : ℕ) → n < length ms → lint_of wants (take (n + 1) ms) ≡ lint_of wants (take n ms) ++ remarks wants (get_or ms n empty_tables)
+remarks-more wants ms n within =
     let m = get_or ms n empty_tables in
-    ap (lint_of names) (take_more ms n empty_tables within) ∙ flat_map-append (remarks names) (take n ms) (m ∷ [])
-    ∙ ap (λ (lines : List (List ℕ)). lint_of names (take n ms) ++ lines) (append-nil (remarks names m))
+    ap (lint_of wants) (take_more ms n empty_tables within) ∙ flat_map-append (remarks wants) (take n ms) (m ∷ [])
+    ∙ ap (λ (lines : List (List ℕ)). lint_of wants (take n ms) ++ lines) (append-nil (remarks wants m))
 
 -- this has been said of maps, and counted
-abbrev pub HasSaid : Option GraphicNames → List Tables → ℕ → Option (List ℕ) → Option (List ℕ) → Type 0
-HasSaid names ms count u w = (count ≡ length (lint_of names ms)) × Appends u w (text_of (lint_of names ms))
+abbrev pub HasSaid : LintWants → List Tables → ℕ → Option (List ℕ) → Option (List ℕ) → Type 0
+HasSaid wants ms count u w = (count ≡ length (lint_of wants ms)) × Appends u w (text_of (lint_of wants ms))
 
-pub maps_more : (names : Option GraphicNames) (ms : List Tables) (n before sum : ℕ) (u v w : Option (List ℕ)) → n < length ms → HasSaid names (take n ms) before u v
-    → WritesRemarks (Ok sum) before (remarks names (get_or ms n empty_tables)) v w → HasSaid names (take (n + 1) ms) sum u w
-maps_more names ms n before sum u v w within (count, said) (more, told) =
+pub maps_more : (wants : LintWants) (ms : List Tables) (n before sum : ℕ) (u v w : Option (List ℕ)) → n < length ms → HasSaid wants (take n ms) before u v
+    → WritesRemarks (Ok sum) before (remarks wants (get_or ms n empty_tables)) v w → HasSaid wants (take (n + 1) ms) sum u w
+maps_more wants ms n before sum u v w within (count, said) (more, told) =
     let m = get_or ms n empty_tables in
-    let done = lint_of names (take n ms) in
-    let all = remarks-more names ms n within in (
-      omega (arith, count, more, ap length all, length-append done (remarks names m)),
-      subst (λ (t : List ℕ). Appends u w t) (sym (ap text_of all ∙ flat_map-append with_lf done (remarks names m)))
-          (Appends-trans u v w (text_of done) (text_of (remarks names m)) said told),
+    let done = lint_of wants (take n ms) in
+    let all = remarks-more wants ms n within in (
+      omega (arith, count, more, ap length all, length-append done (remarks wants m)),
+      subst (λ (t : List ℕ). Appends u w t) (sym (ap text_of all ∙ flat_map-append with_lf done (remarks wants m)))
+          (Appends-trans u v w (text_of done) (text_of (remarks wants m)) said told),
     )
 
-pub maps_stopped : (names : Option GraphicNames) (ms : List Tables) (n before : ℕ) (e : EditorError) (u v w : Option (List ℕ)) → n < length ms → HasSaid names (take n ms) before u v
-    → WritesRemarks (Err e) before (remarks names (get_or ms n empty_tables)) v w → WritesRemarks (Err e) 0 (lint_of names ms) u w
-maps_stopped names ms n before WriterFailed u v w within said told = tt
-maps_stopped names ms n before InputTooLong u v w within said told = absurd told
-maps_stopped names ms n before ReaderFailed u v w within said told = absurd told
-maps_stopped names ms n before OutOfMemory u v w within (count, said) told =
-    let done = lint_of names (take n ms) in
-    let rest = lint_of names (drop (n + 1) ms) in
-    let here : lint_of names (take (n + 1) ms) ≡ done ++ (told.front ++ told.back) =
-    remarks-more names ms n within ∙ ap (λ (lines : List (List ℕ)). done ++ lines) told.parted in
+pub maps_stopped : (wants : LintWants) (ms : List Tables) (n before : ℕ) (e : EditorError) (u v w : Option (List ℕ)) → n < length ms → HasSaid wants (take n ms) before u v
+    → WritesRemarks (Err e) before (remarks wants (get_or ms n empty_tables)) v w → WritesRemarks (Err e) 0 (lint_of wants ms) u w
+maps_stopped wants ms n before WriterFailed u v w within said told = tt
+maps_stopped wants ms n before InputTooLong u v w within said told = absurd told
+maps_stopped wants ms n before ReaderFailed u v w within said told = absurd told
+maps_stopped wants ms n before OutOfMemory u v w within (count, said) told =
+    let done = lint_of wants (take n ms) in
+    let rest = lint_of wants (drop (n + 1) ms) in
+    let here : lint_of wants (take (n + 1) ms) ≡ done ++ (told.front ++ told.back) =
+    remarks-more wants ms n within ∙ ap (λ (lines : List (List ℕ)). done ++ lines) told.parted in
     record {
       front = done ++ told.front;
       back = told.back ++ rest;
       parted =
-          ap (lint_of names) (sym (take-append-drop (n + 1) ms)) ∙ flat_map-append (remarks names) (take (n + 1) ms) (drop (n + 1) ms)
+          ap (lint_of wants) (sym (take-append-drop (n + 1) ms)) ∙ flat_map-append (remarks wants) (take (n + 1) ms) (drop (n + 1) ms)
           ∙ ap (λ (lines : List (List ℕ)). lines ++ rest) (here ∙ sym (append_assoc done told.front told.back))
           ∙ append_assoc (done ++ told.front) told.back rest;
       written =

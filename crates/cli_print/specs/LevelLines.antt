@@ -18,6 +18,7 @@ use Rattle.run_edit.specs.declared.error.InspectError.TheVariants as inspecting
 use Rattle.cli_refusals.specs.declared.refusal.Refusal.{Refusal}
 use Rattle.cli_refusals.specs.declared.refusal.Refusal.TheVariants as of
 use Rattle.cli_print.specs.Checking.{IsCheckedOf}
+use Rattle.cli_print.specs.Choosing.{ChosenWords, LintWants}
 use Rattle.cli_print.specs.Linting.{AreTold, IsNamedBy, RefusesNaming, WritesRemarks, remarks}
 use Rattle.cli_print.specs.ShownNames.{shown}
 use Rattle.cli_print.specs.WantedLevels.{AreWanted, IsWanted, RefusesAllWanted, RefusesWanted}
@@ -42,45 +43,45 @@ IsMapRefusal wad l _ = ⊥
 
 -- what there is to say of a level: what there is of the map that it is after the changes; or, where
 -- it is none whatever is changed of it, a line that says why
-abbrev pub AreLevelLines : Option GraphicNames → List ℕ → LevelEntries → List (List ℕ) → Type 0
-AreLevelLines names wad l lines =
+abbrev pub AreLevelLines : LintWants → List ℕ → LevelEntries → List (List ℕ) → Type 0
+AreLevelLines wants wad l lines =
     ((map_refusal wad l ≡ None)
-    × (lines ≡ remarks names (level_map wad l)))
+    × (lines ≡ remarks wants (level_map wad l)))
     ⊎ ((e : ImportError) × (map_refusal wad l ≡ Some e)
     × (lines ≡ (map shown (name_text (entry_name wad l.marker)) ++ no_map_text e) ∷ []))
 
 -- the same of levels, of one behind another
-abbrev pub AreLinesOf : Option GraphicNames → List ℕ → List LevelEntries → List (List ℕ) → Type 0
-AreLinesOf names wad [] lines = lines ≡ []
-AreLinesOf names wad (l ∷ levels) lines =
+abbrev pub AreLinesOf : LintWants → List ℕ → List LevelEntries → List (List ℕ) → Type 0
+AreLinesOf wants wad [] lines = lines ≡ []
+AreLinesOf wants wad (l ∷ levels) lines =
     (first : List (List ℕ)) × (rest : List (List ℕ)) × (lines ≡ first ++ rest)
-    × AreLevelLines names wad l first × AreLinesOf names wad levels rest
+    × AreLevelLines wants wad l first × AreLinesOf wants wad levels rest
 
 -- how a call ended that was to write what there is to say of a level, and to count the lines on
-abbrev pub WritesLevel : Option GraphicNames → List ℕ → LevelEntries → Result ℕ EditorError → ℕ
+abbrev pub WritesLevel : LintWants → List ℕ → LevelEntries → Result ℕ EditorError → ℕ
     → Option (List ℕ) → Option (List ℕ) → Type 0
-WritesLevel names wad l result before old new =
-    (lines : List (List ℕ)) × AreLevelLines names wad l lines
+WritesLevel wants wad l result before old new =
+    (lines : List (List ℕ)) × AreLevelLines wants wad l lines
     × WritesRemarks result before lines old new
 
 -- what there is to say of the levels that are wanted of a WAD was told; or they can't be looked at,
 -- and nothing was written
-abbrev pub IsWadLintedOf : Option GraphicNames → List ℕ → Option (List ℕ) → Result ℕ Refusal
+abbrev pub IsWadLintedOf : LintWants → List ℕ → Option (List ℕ) → Result ℕ Refusal
     → Option (List ℕ) → Option (List ℕ) → Type 0
-IsWadLintedOf names wad name (Err (of.Level (inspecting.Level e))) writer-old writer-new =
+IsWadLintedOf wants wad name (Err (of.Level (inspecting.Level e))) writer-old writer-new =
     RefusesAllWanted wad name e × Keeps writer-old writer-new
-IsWadLintedOf names wad name how writer-old writer-new =
+IsWadLintedOf wants wad name how writer-old writer-new =
     (levels : List LevelEntries) × (lines : List (List ℕ)) × AreWanted wad name levels
-    × AreLinesOf names wad levels lines × AreTold lines how writer-old writer-new
+    × AreLinesOf wants wad levels lines × AreTold lines how writer-old writer-new
 
 -- the flats and textures of the WAD that is asked for are not named, and nothing was written; or
--- this was done with the names of some WAD, where one is asked for
-abbrev pub IsWadLintedBy : Bool → List ℕ → Option (List ℕ) → Result ℕ Refusal → Option (List ℕ)
-    → Option (List ℕ) → Type 0
-IsWadLintedBy asked wad name how writer-old writer-new =
+-- this was done with the words and the names of some WAD, where one is asked for
+abbrev pub IsWadLintedBy : Bool → ChosenWords → List ℕ → Option (List ℕ) → Result ℕ Refusal
+    → Option (List ℕ) → Option (List ℕ) → Type 0
+IsWadLintedBy asked words wad name how writer-old writer-new =
     ((asked ≡ true) × MatchResult how (λ status. ⊥) RefusesNaming × Keeps writer-old writer-new)
     ⊎ ((names : Option GraphicNames) × IsNamedBy asked names
-    × IsWadLintedOf names wad name how writer-old writer-new)
+    × IsWadLintedOf (record { names = names; words = words }) wad name how writer-old writer-new)
 
 -- the findings of the map that the level is were written, of the last level of the name or of the
 -- first of all; or, with nothing written, it is no map, or there is no such level; or there was no

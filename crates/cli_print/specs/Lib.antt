@@ -1,4 +1,5 @@
 pub mod Checking
+pub mod Choosing
 pub mod LaidOver
 pub mod LevelLines
 pub mod LevelPicture

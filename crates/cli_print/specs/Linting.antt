@@ -15,6 +15,7 @@ use Rattle.map_lint.specs.declared.warning.Warning.{Warning}
 use Rattle.map_dump.specs.Texts.{WritesFront, text_of}
 use Rattle.cli_refusals.specs.Refusals.{EndsReading}
 use Rattle.cli_refusals.specs.Statuses.{status_after}
+use Rattle.cli_print.specs.Choosing.{ChosenWords, LintWants, chosen_findings, chosen_warnings}
 use Rattle.cli_print.specs.Picturing.{is_called}
 use Rattle.cli_print.specs.Reading.{ReadsAll}
 use Rattle.run_edit.specs.Texts.{total_text}
@@ -33,16 +34,21 @@ abbrev pub warned_by : Option GraphicNames → Tables → List Warning
 warned_by None m = []
 warned_by (Some names) m = graphic_warnings names.flats names.textures m
 
+-- of a map's warnings, then those of its flats and textures, what is asked for
+abbrev pub wanted_warnings : LintWants → Tables → List Warning
+wanted_warnings wants m = chosen_warnings wants.words (warnings m ++ warned_by wants.names m)
+
 -- what there is to say of a map: its findings, then its warnings, then those of its flats and
--- textures, each behind the map's name
-abbrev pub remarks : Option GraphicNames → Tables → List (List ℕ)
-remarks names m =
+-- textures, of all these what is asked for, each behind the map's name
+abbrev pub remarks : LintWants → Tables → List (List ℕ)
+remarks wants m =
     map (behind (name_text m.name))
-    (map finding_text (findings m) ++ map warning_text (warnings m ++ warned_by names m))
+    (map finding_text (chosen_findings wants.words (findings m))
+    ++ map warning_text (wanted_warnings wants m))
 
 -- what there is to say of maps, one after another
-abbrev pub lint_of : Option GraphicNames → List Tables → List (List ℕ)
-lint_of names ms = flat_map (remarks names) ms
+abbrev pub lint_of : LintWants → List Tables → List (List ℕ)
+lint_of wants ms = flat_map (remarks wants) ms
 
 -- these lines and their number
 abbrev pub lint_text : List (List ℕ) → List ℕ
@@ -70,21 +76,21 @@ AreTold lines (Err (of.Lines WriterFailed)) writer-old writer-new = Unit {0}
 AreTold lines _ writer-old writer-new = ⊥
 
 -- what there is to say of these maps was told
-abbrev pub IsLintedOf : Option GraphicNames → MapsView → Result ℕ Refusal → Option (List ℕ)
+abbrev pub IsLintedOf : LintWants → MapsView → Result ℕ Refusal → Option (List ℕ)
     → Option (List ℕ) → Type 0
-IsLintedOf names maps how writer-old writer-new =
-    AreTold (lint_of names (project_of maps).maps) how writer-old writer-new
+IsLintedOf wants maps how writer-old writer-new =
+    AreTold (lint_of wants (project_of maps).maps) how writer-old writer-new
 
 -- the same of the map of the name alone, or the project has none; or of all where none is named
-abbrev pub IsLintedIn : Option (List ℕ) → Option GraphicNames → MapsView → Result ℕ Refusal
+abbrev pub IsLintedIn : Option (List ℕ) → LintWants → MapsView → Result ℕ Refusal
     → Option (List ℕ) → Option (List ℕ) → Type 0
-IsLintedIn None names maps how writer-old writer-new =
-    IsLintedOf names maps how writer-old writer-new
-IsLintedIn (Some name) names maps how writer-old writer-new =
+IsLintedIn None wants maps how writer-old writer-new =
+    IsLintedOf wants maps how writer-old writer-new
+IsLintedIn (Some name) wants maps how writer-old writer-new =
     ((how ≡ Err of.NoSuchMap) × (find (is_called name) (project_of maps).maps ≡ None)
     × Keeps writer-old writer-new)
     ⊎ ((m : Tables) × (find (is_called name) (project_of maps).maps ≡ Some m)
-    × AreTold (remarks names m) how writer-old writer-new)
+    × AreTold (remarks wants m) how writer-old writer-new)
 
 -- these are the names of the flats and textures of some WAD, where one is asked for, and else none
 abbrev pub IsNamedBy : Bool → Option GraphicNames → Type 0
@@ -99,13 +105,13 @@ RefusesNaming (of.Level (inspecting.Level e)) = (wad : List ℕ) × RefusesGraph
 RefusesNaming _ = ⊥
 
 -- the flats and textures of the WAD that is asked for are not named, and nothing was written; or
--- this was done with the maps and the names of some WAD, where one is asked for
-abbrev pub IsLintedBy : Bool → Option (List ℕ) → MapsView → Result ℕ Refusal → Option (List ℕ)
-    → Option (List ℕ) → Type 0
-IsLintedBy asked name maps how writer-old writer-new =
+-- this was done with the maps, the words, and the names of some WAD, where one is asked for
+abbrev pub IsLintedBy : Bool → ChosenWords → Option (List ℕ) → MapsView → Result ℕ Refusal
+    → Option (List ℕ) → Option (List ℕ) → Type 0
+IsLintedBy asked words name maps how writer-old writer-new =
     ((asked ≡ true) × MatchResult how (λ status. ⊥) RefusesNaming × Keeps writer-old writer-new)
     ⊎ ((names : Option GraphicNames) × IsNamedBy asked names
-    × IsLintedIn name names maps how writer-old writer-new)
+    × IsLintedIn name (record { names = names; words = words }) maps how writer-old writer-new)
 
 -- the flats and textures of the WAD that is all that the reader gave are named; or it was not read
 -- to its end, or is refused

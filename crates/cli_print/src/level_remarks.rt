@@ -1,16 +1,16 @@
 //! What `lint` writes about the levels of a WAD: the findings and warnings of the map that each is, or why it is none.
 ghost use Rattle.std.specs.Prelude.{◌≡◌, ◌≤◌, ◌+◌, ◌++◌, ◌∷◌, [], All, None, Some, List, ℕ, IfErr, IfOk, MatchResult, is_some, map, option_map};
-ghost use Rattle.std.specs.Option.{option_copied};
 ghost use Rattle.std.specs.Io.KnownBytes.{Appends};
 ghost use Rattle.map_dump.specs.Texts.{with_lf};
 ghost use Rattle.run_edit.specs.declared.error.EditorError.TheVariants.{OutOfMemory, WriterFailed};
 ghost use Rattle.wad_levels.specs.Entries.{IsLevelAt};
-ghost use Rattle.wad_levels.specs.Graphics.{graphics_view};
 ghost use Rattle.lump_records.specs.Names.{name_text};
+ghost use Rattle.cli_print.specs.Choosing.{choice_view, wants_view};
 ghost use Rattle.cli_print.specs.LevelLines.{AreLinesOf, IsWadLintedBy, IsWadLintedOf, WritesLevel, no_map_text};
 ghost use Rattle.cli_print.specs.Linting.{WritesRemarks};
 ghost use Rattle.cli_print.specs.ShownNames.{shown};
 
+use crate::choosing::{Choice, Wants};
 use crate::level_maps::map_of_level;
 use crate::remarks::{plus, write_map};
 use crate::shown_names::write_shown;
@@ -25,7 +25,7 @@ use std::fs::Files;
 use std::io::Write;
 use wad_file::Wad;
 use wad_import::ImportError;
-use wad_levels::{Graphics, LevelEntries, read_wad};
+use wad_levels::{LevelEntries, read_wad};
 
 // Writes that a level is no map, and why.
 fn write_why<W: Write>(error: &ImportError, writer: &mut W) -> Result<(), EditorError>
@@ -80,16 +80,16 @@ fn write_level<W: Write>(
     alloc: Global,
     wad: &Wad<'_>,
     level: LevelEntries,
-    names: Option<&Graphics>,
+    wants: Wants<'_>,
     before: u32,
     writer: &mut W,
 ) -> Result<u32, EditorError>
     requires level { IsLevelAt wad.now level }
-    ensures { WritesLevel (option_map graphics_view (option_copied names.entry)) wad.now level
+    ensures { WritesLevel (wants_view wants.entry) wad.now level
         result before (W.contents writer.old) (W.contents writer.new) }
 {
     match map_of_level(alloc, wad, level) {
-        Ok(found) => write_map(alloc, found.maps.current(), names, before, writer),
+        Ok(found) => write_map(alloc, found.maps.current(), wants, before, writer),
         Err(ImportError::OutOfMemory) => Err(EditorError::OutOfMemory),
         Err(error) => {
             let name = wad.name(level.marker);
@@ -103,18 +103,18 @@ fn write_levels<W: Write>(
     alloc: Global,
     wad: &Wad<'_>,
     levels: &[LevelEntries],
-    names: Option<&Graphics>,
+    wants: Wants<'_>,
     writer: &mut W,
 ) -> Result<u32, EditorError>
     requires levels { All (IsLevelAt wad.now) levels.now }
     ensures { (lines : List (List ℕ))
-        × AreLinesOf (option_map graphics_view (option_copied names.entry))
+        × AreLinesOf (wants_view wants.entry)
         wad.now levels.now lines
         × WritesRemarks result 0 lines (W.contents writer.old) (W.contents writer.new) }
 {
     let mut count = 0;
     for level in levels {
-        match write_level(alloc, wad, *level, names, count, writer) {
+        match write_level(alloc, wad, *level, wants, count, writer) {
             Ok(sum) => count = sum,
             Err(error) => return Err(error),
         }
@@ -127,11 +127,11 @@ fn tell_wanted<W: Write>(
     alloc: Global,
     wad: &Wad<'_>,
     name: Option<&str>,
-    names: Option<&Graphics>,
+    wants: Wants<'_>,
     writer: &mut W,
 ) -> Result<u8, Refusal>
     ensures small { IfOk result (λ s. s ≤ 3) }
-    ensures told { IsWadLintedOf (option_map graphics_view (option_copied names.entry)) wad.now
+    ensures told { IsWadLintedOf (wants_view wants.entry) wad.now
         (option_map (λ s. s.now) name.entry) result
         (W.contents writer.old) (W.contents writer.new) }
 {
@@ -139,7 +139,7 @@ fn tell_wanted<W: Write>(
         Ok(levels) => levels,
         Err(error) => return Err(Refusal::Level(InspectError::Level(error))),
     };
-    let count = write_levels(alloc, wad, &levels, names, writer)?;
+    let count = write_levels(alloc, wad, &levels, wants, writer)?;
     write_total(count, writer)?;
     match writer.flush() {
         Ok(()) => Ok(status_after(count)),
@@ -152,16 +152,16 @@ fn tell_levels<W: Write>(
     alloc: Global,
     wad: &[u8],
     name: Option<&str>,
-    names: Option<&Graphics>,
+    wants: Wants<'_>,
     writer: &mut W,
 ) -> Result<u8, Refusal>
     ensures small { IfOk result (λ s. s ≤ 3) }
-    ensures told { IsWadLintedOf (option_map graphics_view (option_copied names.entry)) wad.now
+    ensures told { IsWadLintedOf (wants_view wants.entry) wad.now
         (option_map (λ s. s.now) name.entry) result
         (W.contents writer.old) (W.contents writer.new) }
 {
     match read_wad(wad) {
-        Ok(wad) => tell_wanted(alloc, &wad, name, names, writer),
+        Ok(wad) => tell_wanted(alloc, &wad, name, wants, writer),
         Err(error) => Err(Refusal::Level(InspectError::Level(error))),
     }
 }
@@ -174,14 +174,19 @@ pub fn tell_levels_beside<E: AllocGlobal + Files, W: Write>(
     wad: &[u8],
     name: Option<&str>,
     iwad: Option<&str>,
+    choice: Choice<'_>,
     writer: &mut W,
     why: &mut Option<Cause>,
 ) -> Result<u8, Refusal>
     ensures small { IfOk result (λ s. s ≤ 3) }
-    ensures told { IsWadLintedBy (is_some iwad.entry) wad.now
+    ensures told { IsWadLintedBy (is_some iwad.entry) (choice_view choice.entry) wad.now
         (option_map (λ s. s.now) name.entry) result
         (W.contents writer.old) (W.contents writer.new) }
 {
     let names = graphics_given(rt, iwad, why)?;
-    tell_levels(rt.alloc(), wad, name, names.as_ref(), writer)
+    let wants = Wants {
+        names: names.as_ref(),
+        choice,
+    };
+    tell_levels(rt.alloc(), wad, name, wants, writer)
 }

@@ -1,6 +1,7 @@
 //! Writes findings and warnings of maps in memory and of the levels of WADs, and draws their pictures.
 #![tactic(auto)]
 
+mod choosing;
 mod findings;
 mod laid_over;
 mod level_maps;
@@ -16,6 +17,7 @@ mod shown_names;
 mod wad_graphics;
 mod wanted;
 
+pub use choosing::Choice;
 pub use findings::tell_findings;
 pub use laid_over::{Layers, layers_of};
 pub use level_maps::{map_of_level, tell_level_findings};

@@ -9,14 +9,16 @@ ghost use Rattle.map_lint.specs.Rules.{warnings};
 ghost use Rattle.map_lint.specs.Texts.{warning_text};
 ghost use Rattle.map_tables.specs.Projects.{project_of};
 ghost use Rattle.map_tables.specs.Tables.{Tables};
-ghost use Rattle.cli_print.specs.Linting.{AreTold, IsLintedBy, IsLintedIn, IsLintedOf, WritesRemarks, behind, lint_of, remarks, warned_by};
+ghost use Rattle.cli_print.specs.Linting.{AreTold, IsLintedBy, IsLintedIn, IsLintedOf, WritesRemarks, behind, lint_of, remarks, wanted_warnings, warned_by};
+ghost use Rattle.cli_print.specs.Choosing.{choice_view, wants_view};
 ghost use Rattle.run_edit.specs.declared.error.EditorError.TheVariants.{OutOfMemory, WriterFailed};
 
+use crate::choosing::{Choice, Wants, chosen_findings, chosen_warnings};
 use crate::pictures::map_called;
 use crate::wad_graphics::graphics_given;
 use cli_files::Cause;
 use cli_refusals::{Refusal, status_after};
-use map_checks::{Finding, check};
+use map_checks::Finding;
 use map_lint::{Warning, lint_graphics};
 use map_tables::{Map, Maps};
 use run_edit::{EditorError, write_total};
@@ -139,22 +141,30 @@ fn warnings_of(
     }
 }
 
+// Of these warnings those that are asked for.
+fn wanted_warnings(alloc: Global, map: &Map, wants: Wants<'_>) -> Result<Vec<Warning>, EditorError>
+    ensures found { IfOk result (λ found.
+        found.items ≡ wanted_warnings (wants_view wants.entry) map.now.tables) }
+    ensures memory { IfErr result (λ e. e ≡ OutOfMemory) }
+{
+    let warned = warnings_of(alloc, map, wants.names)?;
+    chosen_warnings(alloc, &warned, wants.choice)
+}
+
 /// Writes the lines about a map, and adds their number to the count.
 pub(crate) fn write_map<W: Write>(
     alloc: Global,
     map: &Map,
-    names: Option<&Graphics>,
+    wants: Wants<'_>,
     before: u32,
     writer: &mut W,
 ) -> Result<u32, EditorError>
     ensures { WritesRemarks result before
-        (remarks (option_map graphics_view (option_copied names.entry)) map.now.tables)
+        (remarks (wants_view wants.entry) map.now.tables)
         (W.contents writer.old) (W.contents writer.new) }
 {
-    let Ok(found) = check(alloc, map) else {
-        return Err(EditorError::OutOfMemory);
-    };
-    let warned = warnings_of(alloc, map, names)?;
+    let found = chosen_findings(alloc, map, wants.choice)?;
+    let warned = wanted_warnings(alloc, map, wants)?;
     let with_findings = plus(before, found.len())?;
     let count = plus(with_findings, warned.len())?;
     let name = map.name();
@@ -168,18 +178,18 @@ pub(crate) fn write_map<W: Write>(
 fn write_nth<W: Write>(
     alloc: Global,
     maps: &Maps,
-    names: Option<&Graphics>,
+    wants: Wants<'_>,
     n: u32,
     before: u32,
     writer: &mut W,
 ) -> Result<u32, EditorError>
     ensures { (m : Tables) → slice_get (project_of maps.now).maps n ≡ Some m
         → WritesRemarks result before
-        (remarks (option_map graphics_view (option_copied names.entry)) m)
+        (remarks (wants_view wants.entry) m)
         (W.contents writer.old) (W.contents writer.new) }
 {
     match maps.at(n) {
-        Some(map) => write_map(alloc, map, names, before, writer),
+        Some(map) => write_map(alloc, map, wants, before, writer),
         None => Ok(before),
     }
 }
@@ -188,16 +198,16 @@ fn write_nth<W: Write>(
 fn write_maps<W: Write>(
     alloc: Global,
     maps: &Maps,
-    names: Option<&Graphics>,
+    wants: Wants<'_>,
     writer: &mut W,
 ) -> Result<u32, EditorError>
     ensures { WritesRemarks result 0
-        (lint_of (option_map graphics_view (option_copied names.entry)) (project_of maps.now).maps)
+        (lint_of (wants_view wants.entry) (project_of maps.now).maps)
         (W.contents writer.old) (W.contents writer.new) }
 {
     let mut count = 0;
     for n in 0..maps.len() {
-        match write_nth(alloc, maps, names, n, count, writer) {
+        match write_nth(alloc, maps, wants, n, count, writer) {
             Ok(sum) => count = sum,
             Err(error) => return Err(error),
         }
@@ -209,14 +219,14 @@ fn write_maps<W: Write>(
 fn tell_remarks<W: Write>(
     alloc: Global,
     maps: &Maps,
-    names: Option<&Graphics>,
+    wants: Wants<'_>,
     writer: &mut W,
 ) -> Result<u8, Refusal>
     ensures small { IfOk result (λ s. s ≤ 3) }
-    ensures told { IsLintedOf (option_map graphics_view (option_copied names.entry)) maps.now result
+    ensures told { IsLintedOf (wants_view wants.entry) maps.now result
         (W.contents writer.old) (W.contents writer.new) }
 {
-    let count = write_maps(alloc, maps, names, writer)?;
+    let count = write_maps(alloc, maps, wants, writer)?;
     write_total(count, writer)?;
     match writer.flush() {
         Ok(()) => Ok(status_after(count)),
@@ -228,15 +238,15 @@ fn tell_remarks<W: Write>(
 fn tell_map<W: Write>(
     alloc: Global,
     map: &Map,
-    names: Option<&Graphics>,
+    wants: Wants<'_>,
     writer: &mut W,
 ) -> Result<u8, Refusal>
     ensures small { IfOk result (λ s. s ≤ 3) }
     ensures told { AreTold
-        (remarks (option_map graphics_view (option_copied names.entry)) map.now.tables) result
+        (remarks (wants_view wants.entry) map.now.tables) result
         (W.contents writer.old) (W.contents writer.new) }
 {
-    let count = write_map(alloc, map, names, 0, writer)?;
+    let count = write_map(alloc, map, wants, 0, writer)?;
     write_total(count, writer)?;
     match writer.flush() {
         Ok(()) => Ok(status_after(count)),
@@ -249,38 +259,44 @@ fn tell_wanted<W: Write>(
     alloc: Global,
     maps: &Maps,
     name: Option<&str>,
-    names: Option<&Graphics>,
+    wants: Wants<'_>,
     writer: &mut W,
 ) -> Result<u8, Refusal>
     ensures small { IfOk result (λ s. s ≤ 3) }
     ensures told { IsLintedIn (option_map (λ s. s.now) name.entry)
-        (option_map graphics_view (option_copied names.entry)) maps.now result
+        (wants_view wants.entry) maps.now result
         (W.contents writer.old) (W.contents writer.new) }
 {
     let Some(name) = name else {
-        return tell_remarks(alloc, maps, names, writer);
+        return tell_remarks(alloc, maps, wants, writer);
     };
     match map_called(maps, name.as_bytes()) {
-        Some(map) => tell_map(alloc, map, names, writer),
+        Some(map) => tell_map(alloc, map, wants, writer),
         None => Err(Refusal::NoSuchMap),
     }
 }
 
 /// Writes about the maps by number, or about the one with the name alone: the findings of `check`, then the warnings of
-/// `map_lint`, then, if a WAD is given, those of the flats and textures that it lacks. Each line begins with the map's
-/// name; the number of these lines comes last. Or notes why the WAD can't be opened.
+/// `map_lint`, then, if a WAD is given, those of the flats and textures that it lacks; of all these what is asked for.
+/// Each line begins with the map's name; the number of these lines comes last. Or notes why the WAD can't be opened.
 pub fn tell_beside<E: AllocGlobal + Files, W: Write>(
     rt: &E,
     maps: &Maps,
     name: Option<&str>,
     iwad: Option<&str>,
+    choice: Choice<'_>,
     writer: &mut W,
     why: &mut Option<Cause>,
 ) -> Result<u8, Refusal>
     ensures small { IfOk result (λ s. s ≤ 3) }
-    ensures told { IsLintedBy (is_some iwad.entry) (option_map (λ s. s.now) name.entry) maps.now
-        result (W.contents writer.old) (W.contents writer.new) }
+    ensures told { IsLintedBy (is_some iwad.entry) (choice_view choice.entry)
+        (option_map (λ s. s.now) name.entry) maps.now result
+        (W.contents writer.old) (W.contents writer.new) }
 {
     let names = graphics_given(rt, iwad, why)?;
-    tell_wanted(rt.alloc(), maps, name, names.as_ref(), writer)
+    let wants = Wants {
+        names: names.as_ref(),
+        choice,
+    };
+    tell_wanted(rt.alloc(), maps, name, wants, writer)
 }

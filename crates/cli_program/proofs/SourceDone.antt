@@ -4,6 +4,7 @@ use Rattle.std.specs.Io.KnownBytes.{Keeps}
 use Rattle.std.proofs.KnownBytes.{Keeps-refl}
 use Rattle.map_tables.specs.Projects.{MapsView}
 use Rattle.store_disk.specs.declared.disk.Disk.{Ghosts}
+use Rattle.cli_print.specs.Choosing.{ChosenWords}
 use Rattle.cli_print.specs.declared.laid_over.Layers.{Layers}
 use Rattle.cli_program.specs.SourceDeeds.{IsBuiltAt, IsCheckedAt, IsDoneWith, IsDumpedAt, IsLintedAt, IsPicturedAt}
 use Rattle.cli_program.specs.SomeSource.{OverSome}
@@ -22,11 +23,12 @@ pub checked_as : (p q : List ℕ) (m n : Option (List ℕ)) (how : Result ℕ Re
 checked_as p q m n how u w d x path same done =
     subst (λ (t : List ℕ). IsCheckedAt t n how u w d x) path (subst (λ (t : Option (List ℕ)). IsCheckedAt p t how u w d x) same done)
 
-pub linted_as : (p q : List ℕ) (a b : Bool) (m n : Option (List ℕ)) (how : Result ℕ Refusal) (u w d x : Option (List ℕ)) → p ≡ q → a ≡ b → m ≡ n
-    → IsLintedAt p a m how u w d x → IsLintedAt q b n how u w d x
-linted_as p q a b m n how u w d x path same named done =
-    subst (λ (t : List ℕ). IsLintedAt t b n how u w d x) path
-    (subst (λ (t : Bool). IsLintedAt p t n how u w d x) same (subst (λ (t : Option (List ℕ)). IsLintedAt p a t how u w d x) named done))
+pub linted_as : (p q : List ℕ) (a b : Bool) (k l : ChosenWords) (m n : Option (List ℕ)) (how : Result ℕ Refusal) (u w d x : Option (List ℕ)) → p ≡ q → a ≡ b
+    → k ≡ l → m ≡ n → IsLintedAt p a k m how u w d x → IsLintedAt q b l n how u w d x
+linted_as p q a b k l m n how u w d x path same chosen named done =
+    subst (λ (t : List ℕ). IsLintedAt t b l n how u w d x) path
+    (subst (λ (t : Bool). IsLintedAt p t l n how u w d x) same
+    (subst (λ (t : ChosenWords). IsLintedAt p a t n how u w d x) chosen (subst (λ (t : Option (List ℕ)). IsLintedAt p a k t how u w d x) named done)))
 
 pub pictured_as : (p q : List ℕ) (k l : Layers) (m n : Option (List ℕ)) (a b : Bool) (how : Result ℕ Refusal) (u w d x : Option (List ℕ)) → p ≡ q
     → k ≡ l → m ≡ n → a ≡ b → IsPicturedAt p k m a how u w d x → IsPicturedAt q l n b how u w d x
@@ -49,7 +51,7 @@ built_as p q how u w d x path done = subst (λ (t : List ℕ). IsBuiltAt t how u
 pub performed_with : {D : Type 0} (facts : Ghosts D) (request : Request) (how : Result ℕ Refusal) (r u w d x : Option (List ℕ))
     → IsDoneWith request how u w d x → IsPerformed facts request how r r u w
 performed_with facts (Check file map) how r u w d x done = ((d, x, done), Keeps-refl r)
-performed_with facts (Lint file map iwad) how r u w d x done = ((d, x, done), Keeps-refl r)
+performed_with facts (Lint file map iwad only except) how r u w d x done = ((d, x, done), Keeps-refl r)
 performed_with facts (Dump file names exact) how r u w d x done = ((d, x, done), Keeps-refl r)
 performed_with facts (Picture file map out numbers nodes lint) how r u w d x done = ((d, x, done), Keeps-refl r)
 performed_with facts (Build file out) how r u w d x done = ((d, x, done), Keeps-refl r)
@@ -66,7 +68,7 @@ performed_with facts (Rebuild wad out maps) how r u w d x never = absurd never
 -- what was done was told
 pub noted_with : (request : Request) (how : Result ℕ Refusal) (u w d x : Option (List ℕ)) → IsDoneWith request how u w d x → TellsNotes request how u w d x
 noted_with (Check file map) how u w d x done = done
-noted_with (Lint file map iwad) how u w d x done = done
+noted_with (Lint file map iwad only except) how u w d x done = done
 noted_with (Dump file names exact) how u w d x done = done
 noted_with (Picture file map out numbers nodes lint) how u w d x done = done
 noted_with (Build file out) how u w d x done = done
@@ -97,7 +99,7 @@ quiet_some name how u w d x does levels (inr (inr (inr (text, inr (maps, drawn, 
 pub quiet_with : (request : Request) (how : Result ℕ Refusal) (u w d x : Option (List ℕ)) → IsDoneWith request how u w d x → IsQuiet request (status_in how)
     → Keeps d x
 quiet_with (Check file map) how u w d x done none = quiet_some _ how u w d x _ _ done (λ wad told. told.1) none
-quiet_with (Lint file map iwad) how u w d x done none = quiet_some _ how u w d x _ _ done (λ wad told. told.1) none
+quiet_with (Lint file map iwad only except) how u w d x done none = quiet_some _ how u w d x _ _ done (λ wad told. told.1) none
 quiet_with (Picture file map out numbers nodes lint) how u w d x done none = quiet_some _ how u w d x _ _ done (λ wad told. told.1) none
 quiet_with (Build file out) how u w d x done none = quiet_some _ how u w d x _ _ done (λ wad never. absurd never) none
 quiet_with (Dump file names exact) how u w d x done never = absurd never

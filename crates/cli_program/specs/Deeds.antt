@@ -81,8 +81,9 @@ IsPerformed facts (Edit file) how reader-old reader-new writer-old writer-new =
     IsEdited facts how reader-old reader-new writer-old writer-new
 IsPerformed facts (Check file map) how reader-old reader-new writer-old writer-new =
     IsDoneWithSome (Check file map) how writer-old writer-new × Keeps reader-old reader-new
-IsPerformed facts (Lint file map iwad) how reader-old reader-new writer-old writer-new =
-    IsDoneWithSome (Lint file map iwad) how writer-old writer-new × Keeps reader-old reader-new
+IsPerformed facts (Lint file map iwad only except) how reader-old reader-new writer-old writer-new =
+    IsDoneWithSome (Lint file map iwad only except) how writer-old writer-new
+    × Keeps reader-old reader-new
 IsPerformed facts (Draw file script verbose) how reader-old reader-new writer-old writer-new =
     IsDrawnInto facts (is_some script) verbose how reader-old reader-new writer-old writer-new
 IsPerformed facts (TryScript script verbose) how reader-old reader-new writer-old writer-new =

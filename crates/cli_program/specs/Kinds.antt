@@ -6,7 +6,7 @@ use Rattle.cli_words.specs.declared.asked.Request.TheVariants.{Check, Lint, Draw
 -- the request is over a file that may be a project, a WAD or a script, and only reads it
 abbrev pub is_over_source : Request → Bool
 is_over_source (Check file map) = true
-is_over_source (Lint file map iwad) = true
+is_over_source (Lint file map iwad only except) = true
 is_over_source (Dump file names exact) = true
 is_over_source (Picture file map out numbers nodes lint) = true
 is_over_source (Build file out) = true
@@ -33,7 +33,7 @@ abbrev pub IsQuiet : Request → ℕ → Type 0
 IsQuiet (Draw file script verbose) status = status ≡ 0
 IsQuiet (TryScript script verbose) status = status ≡ 0
 IsQuiet (Check file map) status = status ≡ 0
-IsQuiet (Lint file map iwad) status = status ≡ 0
+IsQuiet (Lint file map iwad only except) status = status ≡ 0
 IsQuiet (Picture file map out numbers nodes lint) status = status ≡ 0
 IsQuiet (Build file out) status = status ≡ 0
 IsQuiet (Dump file names exact) status = ⊥

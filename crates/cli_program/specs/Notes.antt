@@ -11,8 +11,8 @@ abbrev pub TellsNotes : Request → Result ℕ Refusal → Option (List ℕ) →
     → Option (List ℕ) → Option (List ℕ) → Type 0
 TellsNotes (Check file map) how writer-old writer-new errors-old errors-new =
     IsDoneWith (Check file map) how writer-old writer-new errors-old errors-new
-TellsNotes (Lint file map iwad) how writer-old writer-new errors-old errors-new =
-    IsDoneWith (Lint file map iwad) how writer-old writer-new errors-old errors-new
+TellsNotes (Lint file map iwad only except) how writer-old writer-new errors-old errors-new =
+    IsDoneWith (Lint file map iwad only except) how writer-old writer-new errors-old errors-new
 TellsNotes (Dump file names exact) how writer-old writer-new errors-old errors-new =
     IsDoneWith (Dump file names exact) how writer-old writer-new errors-old errors-new
 TellsNotes (Picture file map out numbers nodes lint) how writer-old writer-new errors-old

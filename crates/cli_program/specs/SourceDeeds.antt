@@ -5,6 +5,7 @@ use Rattle.std.specs.Io.KnownBytes.{Keeps}
 use Rattle.cli_dump.specs.Dumping.{IsDumpedIn}
 use Rattle.cli_dump.specs.LevelDumps.{IsWadDumped}
 use Rattle.cli_print.specs.Checking.{IsCheckedIn}
+use Rattle.cli_print.specs.Choosing.{ChosenWords}
 use Rattle.cli_print.specs.LevelLines.{IsWadChecked, IsWadLintedBy}
 use Rattle.cli_print.specs.LevelPicture.{IsLevelPicturedOf}
 use Rattle.cli_print.specs.Linting.{IsLintedBy}
@@ -26,12 +27,13 @@ IsCheckedAt path name how writer-old writer-new faults-old faults-new =
     (λ wad. IsWadChecked wad name how writer-old writer-new × Keeps faults-old faults-new)
 
 -- what there is to say of the maps of the file at the path, or of its levels, was told
-abbrev pub IsLintedAt : List ℕ → Bool → Option (List ℕ) → Result ℕ Refusal → Option (List ℕ)
-    → Option (List ℕ) → Option (List ℕ) → Option (List ℕ) → Type 0
-IsLintedAt path asked name how writer-old writer-new faults-old faults-new =
+abbrev pub IsLintedAt : List ℕ → Bool → ChosenWords → Option (List ℕ) → Result ℕ Refusal
+    → Option (List ℕ) → Option (List ℕ) → Option (List ℕ) → Option (List ℕ) → Type 0
+IsLintedAt path asked words name how writer-old writer-new faults-old faults-new =
     OverSome path how writer-old writer-new faults-old faults-new
-    (λ maps. IsLintedBy asked name maps how writer-old writer-new)
-    (λ wad. IsWadLintedBy asked wad name how writer-old writer-new × Keeps faults-old faults-new)
+    (λ maps. IsLintedBy asked words name maps how writer-old writer-new)
+    (λ wad. IsWadLintedBy asked words wad name how writer-old writer-new
+    × Keeps faults-old faults-new)
 
 -- a map of the file at the path, or a level, was drawn
 abbrev pub IsPicturedAt : List ℕ → Layers → Option (List ℕ) → Bool → Result ℕ Refusal
@@ -63,9 +65,14 @@ abbrev pub IsDoneWith : Request → Result ℕ Refusal → Option (List ℕ) →
 IsDoneWith (Check file map) how writer-old writer-new faults-old faults-new =
     IsCheckedAt (string_bytes file) (option_map string_bytes map) how writer-old writer-new
     faults-old faults-new
-IsDoneWith (Lint file map iwad) how writer-old writer-new faults-old faults-new =
-    IsLintedAt (string_bytes file) (is_some iwad) (option_map string_bytes map) how
-    writer-old writer-new faults-old faults-new
+IsDoneWith (Lint file map-name iwad only except) how writer-old writer-new
+    faults-old faults-new =
+    IsLintedAt (string_bytes file) (is_some iwad)
+    (record {
+      only = map string_bytes only.items;
+      except = map string_bytes except.items;
+    })
+    (option_map string_bytes map-name) how writer-old writer-new faults-old faults-new
 IsDoneWith (Dump file names exact) how writer-old writer-new faults-old faults-new =
     IsDumpedAt (string_bytes file) (map string_bytes names.items) exact how writer-old writer-new
     faults-old faults-new

@@ -3,6 +3,7 @@
 ghost use Rattle.std.specs.Prelude.{◌≡◌, ◌≤◌, IfOk, is_some, map, option_map, string_bytes};
 ghost use Rattle.cli_dump.specs.Dumping.{IsDumpedIn};
 ghost use Rattle.cli_print.specs.Checking.{IsCheckedIn};
+ghost use Rattle.cli_print.specs.Choosing.{choice_view};
 ghost use Rattle.cli_print.specs.Linting.{IsLintedBy};
 ghost use Rattle.cli_print.specs.Picturing.{IsPicturedOf};
 ghost use Rattle.cli_program.specs.ScriptMaps.{OverScript};
@@ -12,7 +13,7 @@ use crate::build_request::build_at;
 use crate::script_maps::draw_maps;
 use cli_dump::tell_lines_of;
 use cli_files::{Cause, Hold};
-use cli_print::{Wanted, draw, tell_beside, tell_findings};
+use cli_print::{Choice, Wanted, draw, tell_beside, tell_findings};
 use cli_refusals::{Causes, Refusal};
 use run_script::{Canvas, Draft};
 use std::alloc::Global;
@@ -52,6 +53,7 @@ pub fn lint_script<E: AllocGlobal + Files, R: Read, W: Write, F: Write>(
     reader: &mut R,
     name: Option<&str>,
     iwad: Option<&str>,
+    choice: Choice<'_>,
     writer: &mut W,
     faults: &mut F,
     why: &mut Causes,
@@ -60,8 +62,9 @@ pub fn lint_script<E: AllocGlobal + Files, R: Read, W: Write, F: Write>(
     ensures linted { OverScript script.now (R.remaining reader.old) (R.remaining reader.new) result
         (W.contents writer.old) (W.contents writer.new)
         (F.contents faults.old) (F.contents faults.new)
-        (λ maps. IsLintedBy (is_some iwad.entry) (option_map (λ s. s.now) name.entry) maps
-        result (W.contents writer.old) (W.contents writer.new)) }
+        (λ maps. IsLintedBy (is_some iwad.entry) (choice_view choice.entry)
+        (option_map (λ s. s.now) name.entry) maps result
+        (W.contents writer.old) (W.contents writer.new)) }
 {
     let mut draft = Draft::new(rt.alloc());
     match draw_maps(
@@ -73,7 +76,17 @@ pub fn lint_script<E: AllocGlobal + Files, R: Read, W: Write, F: Write>(
         &mut why.file,
     ) {
         Some(how) => how,
-        None => tell_beside(rt, draft.maps(), name, iwad, writer, &mut why.beside),
+        None => {
+            tell_beside(
+                rt,
+                draft.maps(),
+                name,
+                iwad,
+                choice,
+                writer,
+                &mut why.beside,
+            )
+        },
     }
 }
 

@@ -1,6 +1,7 @@
 //! The requests that only read a project, in the file at a path, which may also be a WAD or a script: `build` takes no
 //! WAD.
 ghost use Rattle.std.specs.Prelude.{◌≡◌, ◌≤◌, IfOk, is_some, map, option_map, string_bytes};
+ghost use Rattle.cli_print.specs.Choosing.{choice_view};
 ghost use Rattle.cli_program.specs.SourceDeeds.{IsBuiltAt, IsCheckedAt, IsDumpedAt, IsLintedAt, IsPicturedAt};
 
 use crate::build_request::build;
@@ -12,7 +13,7 @@ use crate::over_script::{build_script, check_script, dump_script, lint_script, p
 use crate::over_wad::check_wad;
 use crate::picture_request::{picture, picture_wad};
 use cli_files::{Access, Content, Hold, NotedFile, content_in};
-use cli_print::Wanted;
+use cli_print::{Choice, Wanted};
 use cli_refusals::{Causes, Refusal};
 use std::io::Write;
 use std::os::unix::fs::FileExt;
@@ -66,6 +67,7 @@ pub fn lint_file<E, W, F>(
     path: &str,
     name: Option<&str>,
     iwad: Option<&str>,
+    choice: Choice<'_>,
     writer: &mut W,
     faults: &mut F,
     why: &mut Causes,
@@ -76,21 +78,22 @@ where
     W: Write,
     F: Write,
     ensures small { IfOk result (λ s. s ≤ 3) }
-    ensures linted { IsLintedAt path.now (is_some iwad.entry) (option_map (λ s. s.now) name.entry)
-        result (W.contents writer.old) (W.contents writer.new)
+    ensures linted { IsLintedAt path.now (is_some iwad.entry) (choice_view choice.entry)
+        (option_map (λ s. s.now) name.entry) result
+        (W.contents writer.old) (W.contents writer.new)
         (F.contents faults.old) (F.contents faults.new) }
 {
     let mut file = open_at(rt, path, Access::Reads, why)?;
     match content_in(&file) {
-        Ok(Content::Wad) => return lint_wad(rt, &mut file, name, iwad, writer, why),
+        Ok(Content::Wad) => return lint_wad(rt, &mut file, name, iwad, choice, writer, why),
         Ok(Content::Text | Content::Picture) => {
-            return lint_script(rt, path, &mut file, name, iwad, writer, faults, why);
+            return lint_script(rt, path, &mut file, name, iwad, choice, writer, faults, why);
         }
         _ => {}
     }
     let file = NotedFile::new(file);
     let disk = FileDisk::new(&file, false);
-    let how = lint(rt, disk, name, iwad, writer, &mut why.beside).how;
+    let how = lint(rt, disk, name, iwad, choice, writer, &mut why.beside).how;
     ended_over(&file, how, why)
 }
 

@@ -15,7 +15,7 @@ use crate::over_source::{build_file, check_file, dump_file, lint_file, picture_f
 use crate::rebuild_request::rebuild;
 use crate::script_file::try_file;
 use cli_files::{Hold, NotedFile};
-use cli_print::{TURNS, Wanted, layers_of};
+use cli_print::{Choice, TURNS, Wanted, layers_of};
 use cli_refusals::{Causes, Refusal, ended, report, report_causes, status_in};
 use cli_words::Request;
 use run_edit::run_in_memory;
@@ -138,10 +138,17 @@ where
             let map = map.as_deref();
             check_file(rt, file.as_str(), map, writer, faults, why)
         }
-        Request::Lint { file, map, iwad } => {
+        Request::Lint {
+            file,
+            map,
+            iwad,
+            only,
+            except,
+        } => {
             let map = map.as_deref();
             let iwad = iwad.as_deref();
-            lint_file(rt, file.as_str(), map, iwad, writer, faults, why)
+            let choice = Choice { only, except };
+            lint_file(rt, file.as_str(), map, iwad, choice, writer, faults, why)
         }
         Request::Dump { file, names, exact } => {
             dump_file(rt, file.as_str(), names, *exact, writer, faults, why)

@@ -1,6 +1,6 @@
 -- From the matches of a parse to what the words ask for.
 use Rattle.std.proofs.Common.{◌≡◌, ◌∙◌, ◌⊎◌, IfSome, IfNone, ◌<◌, ◌≤◌, ◌^◌, inl, inr, arith, ℕ, Result, Ok, Err, List, [], ◌∷◌, Option, Some, None, Box, Bool, IsSomeAnd, true, false, cond, refl, sym, ap, subst, option_map}
-use Rattle.std.specs.Prelude.{codes, find, map, not, ◌&&◌, is_some}
+use Rattle.std.specs.Prelude.{codes, find, map, not, ◌&&◌, is_some, string_bytes}
 use Rattle.std.specs.Box.{box_value}
 use Rattle.clap.specs.Words.{HasMatchesOf, Kinds, ReadsOne, Row, Shape, Text, fault_of, found_of, is_simple, is_simple_and_free, one_text, rows_of, subcommand_name_of, subcommand_of, subcommand_rows, subcommand_rows_of}
 use Rattle.clap.specs.Kinds.{check_kinds, or_else}
@@ -20,8 +20,9 @@ use Rattle.clap.specs.declared.parser.matches.Found.{Found}
 use Rattle.clap.proofs.WalkLemmas.{one_text-rows}
 use Rattle.cli_words.specs.App.{leveled_app}
 use Rattle.cli_words.specs.Request.{HasMoreThanFile, HasNumber, HasSurplus, IsSubcommand, LacksNumber, LacksValue, RefusesRead, RefusesValues}
+use Rattle.cli_words.specs.RuleWords.{HasUnknownWord}
 use Rattle.cli_words.specs.declared.asked.RequestError.{RequestError}
-use Rattle.cli_words.specs.declared.asked.RequestError.TheVariants.{Words, Codes, Number, Surplus, WholeAlone, Memory}
+use Rattle.cli_words.specs.declared.asked.RequestError.TheVariants.{Words, Codes, Number, Surplus, WholeAlone, NotARule, Memory}
 
 pub is_simple-leveled : is_simple leveled_app ≡ true
 unfolding clap_on_literals
@@ -150,6 +151,7 @@ refuses words name rows Codes is never = absurd never
 refuses words name rows Number is lacks = asks (subcommand_of leveled_app words) name rows LacksValue is lacks
 refuses words name rows Surplus is has = asks (subcommand_of leveled_app words) name rows HasSurplus is has
 refuses words name rows WholeAlone is has = asks (subcommand_of leveled_app words) name rows HasMoreThanFile is has
+refuses words name rows (NotARule word) is has = asks (subcommand_of leveled_app words) name rows (HasUnknownWord (string_bytes word)) is has
 refuses words name rows Memory is told = tt
 
 -- ---- The values

@@ -72,11 +72,14 @@ create_app =
 abbrev pub check_app : App
 check_app = with_rule (with_one_word (codes "check") (codes "file")) (last_rule (codes "map"))
 
--- `lint FILE [MAP] [--iwad WAD]`
+-- `lint FILE [MAP] [--iwad WAD] [--only WORD].. [--except WORD]..`
 abbrev pub lint_app : App
 lint_app =
-    with_rule (with_rule (with_one_word (codes "lint") (codes "file")) (last_rule (codes "map")))
-    (path_rule (codes "iwad"))
+    with_rule (with_rule (with_rule (with_rule (with_one_word (codes "lint") (codes "file"))
+    (last_rule (codes "map")))
+    (path_rule (codes "iwad")))
+    (repeated_rule (codes "only")))
+    (repeated_rule (codes "except"))
 
 -- `build FILE OUT`
 abbrev pub build_app : App

@@ -1,5 +1,5 @@
 -- What the program's arguments ask for (docs/COMMANDS.md, "The program").
-use Rattle.std.specs.Prelude.{◌≡◌, ◌<◌, ◌≤◌, ◌⊎◌, ℕ, Bool, Some, None, List, [], codes, length, is_some, map, option_map, unwrap_or, string_bytes, true, false, IsSomeAnd}
+use Rattle.std.specs.Prelude.{◌≡◌, ◌<◌, ◌≤◌, ◌⊎◌, ℕ, Bool, Some, None, List, [], codes, length, Option, is_some, map, option_map, unwrap_or, string_bytes, true, false, IsSomeAnd}
 use Rattle.std.specs.Option.{option_map_or}
 use Rattle.std.specs.Str.{bytes_eq}
 use Rattle.std.specs.Str.Parse.{IsNumeral, digits_value, without_leading_plus}
@@ -7,9 +7,10 @@ use Rattle.clap.specs.Words.{HasKind, all_of, fault_of, first_of, Row, Text, one
 use Rattle.clap.specs.Values.{kind_of}
 use Rattle.clap.specs.declared.error.kind.ErrorKind.TheVariants.{OutOfMemory}
 use Rattle.cli_words.specs.App.{leveled_app}
+use Rattle.cli_words.specs.RuleWords.{HasUnknownWord, all_given, unknown_given}
 use Rattle.cli_words.specs.declared.asked.Request.{Request}
 use Rattle.cli_words.specs.declared.asked.RequestError.{RequestError}
-use Rattle.cli_words.specs.declared.asked.RequestError.TheVariants.{Words, Codes, Number, Surplus, WholeAlone, Memory}
+use Rattle.cli_words.specs.declared.asked.RequestError.TheVariants.{Words, Codes, Number, Surplus, WholeAlone, NotARule, Memory}
 use Rattle.cli_words.specs.declared.asked.Request.TheVariants.{Scratch, Create, Edit, Check, Lint, Draw, TryScript, Dump, Salvage, Picture, Inspect, Levels, Build, Rebuild}
 
 -- the argument's text is this number in decimal digits, and it is within the limits
@@ -41,10 +42,13 @@ AsksFor (Edit file) asked =
 AsksFor (Check file map) asked = (asked.0 ≡ codes "check")
     × (first_of (codes "file") asked.1 ≡ Some (string_bytes file))
     × (first_of (codes "map") asked.1 ≡ option_map string_bytes map)
-AsksFor (Lint file map iwad) asked = (asked.0 ≡ codes "lint")
+AsksFor (Lint file map-name iwad only except) asked = (asked.0 ≡ codes "lint")
     × (first_of (codes "file") asked.1 ≡ Some (string_bytes file))
-    × (first_of (codes "map") asked.1 ≡ option_map string_bytes map)
+    × (first_of (codes "map") asked.1 ≡ option_map string_bytes map-name)
     × (first_of (codes "iwad") asked.1 ≡ option_map string_bytes iwad)
+    × (map string_bytes only.items ≡ all_given (codes "only") asked.1)
+    × (map string_bytes except.items ≡ all_given (codes "except") asked.1)
+    × (unknown_given asked.1 ≡ None)
 AsksFor (Draw file script verbose) asked = (asked.0 ≡ codes "draw")
     × (is_given (codes "check") asked.1 ≡ false)
     × (first_of (codes "file") asked.1 ≡ Some (string_bytes file))
@@ -58,12 +62,12 @@ AsksFor (TryScript script verbose) asked = (asked.0 ≡ codes "draw")
 AsksFor (Dump file names exact) asked = (asked.0 ≡ codes "dump")
     × (is_given (codes "salvage") asked.1 ≡ false)
     × (first_of (codes "file") asked.1 ≡ Some (string_bytes file))
-    × (map string_bytes names.items ≡ unwrap_or (all_of (codes "name") asked.1) [])
+    × (map string_bytes names.items ≡ all_given (codes "name") asked.1)
     × (exact ≡ is_given (codes "exact") asked.1)
 AsksFor (Salvage file) asked = (asked.0 ≡ codes "dump")
     × (is_given (codes "salvage") asked.1 ≡ true)
     × (first_of (codes "file") asked.1 ≡ Some (string_bytes file))
-    × (unwrap_or (all_of (codes "name") asked.1) [] ≡ [])
+    × (all_given (codes "name") asked.1 ≡ [])
     × (is_given (codes "exact") asked.1 ≡ false)
 AsksFor (Picture file map out numbers nodes lint) asked = (asked.0 ≡ codes "picture")
     × (first_of (codes "file") asked.1 ≡ Some (string_bytes file))
@@ -78,7 +82,7 @@ AsksFor (Build file out) asked = (asked.0 ≡ codes "build")
 AsksFor (Rebuild wad out maps) asked = (asked.0 ≡ codes "rebuild")
     × (first_of (codes "wad") asked.1 ≡ Some (string_bytes wad))
     × (first_of (codes "out") asked.1 ≡ Some (string_bytes out))
-    × (map string_bytes maps.items ≡ unwrap_or (all_of (codes "map") asked.1) [])
+    × (map string_bytes maps.items ≡ all_given (codes "map") asked.1)
 AsksFor (Inspect wad name) asked = (asked.0 ≡ codes "inspect")
     × (first_of (codes "wad") asked.1 ≡ Some (string_bytes wad))
     × (first_of (codes "name") asked.1 ≡ Some (string_bytes name))
@@ -112,6 +116,7 @@ RefusesText id rows (Words error) = ⊥
 RefusesText id rows Codes = ⊥
 RefusesText id rows Surplus = ⊥
 RefusesText id rows WholeAlone = ⊥
+RefusesText id rows (NotARule word) = ⊥
 RefusesText id rows Number = first_of id rows ≡ None
 RefusesText id rows Memory = Unit {0}
 
@@ -136,7 +141,7 @@ abbrev pub HasMoreThanFile : Text × List Row → Type 0
 HasMoreThanFile asked =
     (asked.0 ≡ codes "dump") × (is_given (codes "salvage") asked.1 ≡ true)
     × ((is_given (codes "exact") asked.1 ≡ true)
-    ⊎ (0 < length (unwrap_or (all_of (codes "name") asked.1) [])))
+    ⊎ (0 < length (all_given (codes "name") asked.1)))
 
 -- why the values of a subcommand's arguments are refused
 abbrev pub RefusesValues : Text × List Row → RequestError → Type 0
@@ -145,6 +150,7 @@ RefusesValues asked Codes = ⊥
 RefusesValues asked Number = LacksValue asked
 RefusesValues asked Surplus = HasSurplus asked
 RefusesValues asked WholeAlone = HasMoreThanFile asked
+RefusesValues asked (NotARule word) = HasUnknownWord (string_bytes word) asked
 RefusesValues asked Memory = Unit {0}
 
 -- Why the arguments are refused. clap's error is a fault that it names for these arguments, and for
@@ -158,4 +164,6 @@ RefusesRead words Codes = ⊥
 RefusesRead words Number = IsSomeAnd (subcommand_of leveled_app words) LacksValue
 RefusesRead words Surplus = IsSomeAnd (subcommand_of leveled_app words) HasSurplus
 RefusesRead words WholeAlone = IsSomeAnd (subcommand_of leveled_app words) HasMoreThanFile
+RefusesRead words (NotARule word) =
+    IsSomeAnd (subcommand_of leveled_app words) (HasUnknownWord (string_bytes word))
 RefusesRead words Memory = Unit {0}

@@ -116,7 +116,9 @@ fn lint<'a>(alloc: Global) -> Result<Command<'a>, AllocError>
     let about = "Prints what is wrong or doubtful in the maps of a project or the levels of a WAD";
     over_file(alloc, "lint", about, help::LINT)?
         .arg(last_word(alloc, "map", "MAP"))?
-        .arg(path(alloc, "iwad", "WAD"))
+        .arg(path(alloc, "iwad", "WAD"))?
+        .arg(repeated(alloc, "only", "WORD"))?
+        .arg(repeated(alloc, "except", "WORD"))
 }
 
 // `draw`.

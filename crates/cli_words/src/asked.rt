@@ -23,11 +23,14 @@ pub enum Request {
         map: Option<String>,
     },
     /// Print what is wrong, unfinished or doubtful in each map of a project or level of a WAD, or in the one with this
-    /// name, and which flats and textures the WAD `iwad` lacks, if it is given.
+    /// name, and which flats and textures the WAD `iwad` lacks, if it is given. Print only lines with the words `only`,
+    /// or those of all rules if there are none, and none with the words `except`.
     Lint {
         file: String,
         map: Option<String>,
         iwad: Option<String>,
+        only: Vec<String>,
+        except: Vec<String>,
     },
     /// Draw the lines of a script onto a project: of the file `script`, or of standard input. If `verbose`, print the
     /// answers to commands too, and not only those to queries.
@@ -104,6 +107,9 @@ pub enum RequestError {
     /// `dump --salvage` has a name or `--exact`.
     #[error("with --salvage FILE is the only argument, and --exact can't be given")]
     WholeAlone,
+    /// `lint` is given a word that no rule has.
+    #[error("no rule has the word {0}")]
+    NotARule(String),
     /// There is no memory for a text of the request.
     #[error("out of memory")]
     Memory,

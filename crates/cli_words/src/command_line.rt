@@ -7,11 +7,12 @@ ghost use Rattle.cli_words.specs.Request.{AsksFor, HasNumber, IsSubcommand, Lack
 
 use crate::app::leveled;
 use crate::asked::{Request, RequestError};
+use crate::lint_words::asked_lint;
 use clap::ArgMatches;
 use std::alloc::Global;
 
-// A copy of the text, which the request owns.
-fn owned(alloc: Global, text: &str) -> Result<String, RequestError>
+/// A copy of the text, which the request owns.
+pub(crate) fn owned(alloc: Global, text: &str) -> Result<String, RequestError>
     ensures same { IfOk result (λ s. string_bytes s ≡ text.now) }
     ensures refused { IfErr result (λ e. e ≡ RequestError.Memory) }
 {
@@ -21,8 +22,8 @@ fn owned(alloc: Global, text: &str) -> Result<String, RequestError>
     }
 }
 
-// The text of an argument.
-fn text(alloc: Global, found: &ArgMatches<'_>, id: &str) -> Result<String, RequestError>
+/// The text of an argument.
+pub(crate) fn text(alloc: Global, found: &ArgMatches<'_>, id: &str) -> Result<String, RequestError>
     ensures given { IfOk result
         (λ s. first_of id.now (rows_of (found_of found.now)) ≡ Some (string_bytes s)) }
     ensures refused { IfErr result (RefusesText id.now (rows_of (found_of found.now))) }
@@ -88,8 +89,8 @@ fn asked_build(alloc: Global, found: &ArgMatches<'_>) -> Result<Request, Request
     }
 }
 
-// The text of an optional argument.
-fn last_text(
+/// The text of an optional argument.
+pub(crate) fn last_text(
     alloc: Global,
     found: &ArgMatches<'_>,
     id: &str,
@@ -118,25 +119,6 @@ fn asked_check(alloc: Global, found: &ArgMatches<'_>) -> Result<Request, Request
     };
     match last_text(alloc, found, "map") {
         Ok(map) => Ok(Request::Check { file, map }),
-        Err(error) => Err(error),
-    }
-}
-
-// The request to lint maps.
-fn asked_lint(alloc: Global, found: &ArgMatches<'_>) -> Result<Request, RequestError>
-    ensures asked { IfOk result (λ r. AsksFor r (codes "lint", rows_of (found_of found.now))) }
-    ensures refused { IfErr result (RefusesValues (codes "lint", rows_of (found_of found.now))) }
-{
-    let file = match text(alloc, found, "file") {
-        Ok(file) => file,
-        Err(error) => return Err(error),
-    };
-    let map = match last_text(alloc, found, "map") {
-        Ok(map) => map,
-        Err(error) => return Err(error),
-    };
-    match last_text(alloc, found, "iwad") {
-        Ok(iwad) => Ok(Request::Lint { file, map, iwad }),
         Err(error) => Err(error),
     }
 }
@@ -170,8 +152,12 @@ fn owned_all(alloc: Global, given: &[&str]) -> Result<Vec<String>, RequestError>
     Ok(texts)
 }
 
-// The texts of an argument that may be given any number of times.
-fn texts(alloc: Global, found: &ArgMatches<'_>, id: &str) -> Result<Vec<String>, RequestError>
+/// The texts of an argument that may be given any number of times.
+pub(crate) fn texts(
+    alloc: Global,
+    found: &ArgMatches<'_>,
+    id: &str,
+) -> Result<Vec<String>, RequestError>
     ensures given { IfOk result (λ texts. map string_bytes texts.items
         ≡ unwrap_or (all_of id.now (rows_of (found_of found.now))) []) }
     ensures refused { IfErr result (λ e. e ≡ RequestError.Memory) }
@@ -382,7 +368,7 @@ fn read_two(alloc: Global, program: &str, word: &str, name: &str) -> Result<Requ
 /// `Words` if clap refuses the arguments, or answers them itself with help or the version; clap's error has the text,
 /// its stream and the status. `Codes` for `help codes`. `Number` if clap accepted an argument without a value within
 /// its limits. `Surplus` if `draw --check` has a second argument. `WholeAlone` if `dump --salvage` has a name or
-/// `--exact`. `Memory` if there is none.
+/// `--exact`. `NotARule` if `lint` is given a word that no rule has. `Memory` if there is none.
 pub fn request(alloc: Global, words: &[&str]) -> Result<Request, RequestError>
     ensures asked { IfOk result (λ r. IsSomeAnd
         (subcommand_of leveled_app (without_help (map (λ w. w.now) words.now))) (AsksFor r)) }

@@ -78,8 +78,10 @@ play as intended. Each line begins with the map's name, for example
 is 3 unless N is 0. FILE may also be a WAD: then its levels are checked, and
 `E1M1 no-map REASON` means that a level can't be made a map. Or FILE is a script: it is
 drawn in memory, and its maps are checked. With --iwad it also prints which flats and
-textures of the maps WAD lacks; WAD is usually an IWAD, for example doom2.wad. COMMANDS.md
-says what to do about each line. FILE isn't changed.";
+textures of the maps WAD lacks; WAD is usually an IWAD, for example doom2.wad. --only
+prints only the lines with WORD, such as line-crossed, or check for the lines of `check`;
+--except leaves them out. Each may be given several times. COMMANDS.md says what to do
+about each line. FILE isn't changed.";
 
 /// `draw`.
 pub const DRAW: &str = "\

@@ -5,7 +5,10 @@ mod app;
 mod asked;
 mod command_line;
 mod help;
+mod lint_words;
+mod rule_words;
 
 pub use asked::{Request, RequestError};
 pub use command_line::request;
 pub use help::CODES;
+pub use rule_words::RULE_WORDS;

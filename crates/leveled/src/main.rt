@@ -8,7 +8,7 @@ use clap::Error;
 use clap::error::ErrorKind;
 use cli_files::NotedFile;
 use cli_program::perform;
-use cli_words::{CODES, Request, RequestError, request};
+use cli_words::{CODES, RULE_WORDS, Request, RequestError, request};
 use lump_text::write_shown_lines;
 use std::env::{self, Env, FillError};
 use std::fs::{self, File};
@@ -99,6 +99,13 @@ fn answer_words(rt: &HostRuntime, error: &Error) -> u8
     after_printing(rt, error.print(rt).is_ok())
 }
 
+// Prints the words by which `lint` chooses rules, a line each.
+fn print_rule_words(rt: &HostRuntime) {
+    for word in RULE_WORDS {
+        let _ = eprintln!(rt; "  {word}");
+    }
+}
+
 // Prints what arguments that are no request ask for, or why they are none, and returns the status.
 fn refuse(rt: &HostRuntime, error: &RequestError) -> u8
     ensures small { result ≤ 2 }
@@ -109,6 +116,11 @@ fn refuse(rt: &HostRuntime, error: &RequestError) -> u8
         RequestError::Codes => after_printing(rt, println!(rt; "{CODES}").is_ok()),
         RequestError::Memory => {
             complain_of_memory(rt);
+            NO_REQUEST
+        }
+        RequestError::NotARule(_) => {
+            let _ = eprintln!(rt; "leveled: {error}; the words are:");
+            print_rule_words(rt);
             NO_REQUEST
         }
         RequestError::Number | RequestError::Surplus | RequestError::WholeAlone => {

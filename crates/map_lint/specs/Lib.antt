@@ -7,6 +7,9 @@ pub mod Areas
 pub mod Borders
 pub mod Whereabouts
 pub mod Rules
+pub mod Rows
+pub mod Short
+pub mod TextureIndex
 pub mod Graphics
 pub mod Tallies
 pub mod Facts

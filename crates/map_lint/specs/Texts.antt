@@ -6,7 +6,7 @@ use Rattle.map_lint.specs.declared.warning.Warning.{Warning}
 use Rattle.map_lint.specs.declared.whereabouts.Whereabouts.{Whereabouts}
 use Rattle.map_lint.specs.declared.whereabouts.Whereabouts.TheVariants.{Unplaced, At, Between}
 use Rattle.map_lint.specs.declared.warning.Rule.{Rule}
-use Rattle.map_lint.specs.declared.warning.Rule.TheVariants.{PlayerStart, OneStart, DeathmatchStarts, CeilingAboveFloor, TagGiven, TagOfSector, TagOfLine, LineSpecialKnown, SectorSpecialKnown, ThingKnown, TextureShows, SectorInside, LinesApart, ThingInside, DoorBacked, DonutBacked, ScrollsFit, TeleportLands, LevelEnds, KeyGiven, NeighboursFit, ThingFree, FlatKnown, TextureKnown}
+use Rattle.map_lint.specs.declared.warning.Rule.TheVariants.{PlayerStart, OneStart, DeathmatchStarts, CeilingAboveFloor, TagGiven, TagOfSector, TagOfLine, LineSpecialKnown, SectorSpecialKnown, ThingKnown, TextureShows, SectorInside, LinesApart, ThingInside, DoorBacked, DonutBacked, ScrollsFit, TeleportLands, LevelEnds, KeyGiven, NeighboursFit, ThingFree, FlatKnown, TextureKnown, TextureReaches}
 
 -- the word for a broken rule
 abbrev pub word_of : Rule → List ℕ
@@ -34,6 +34,7 @@ word_of NeighboursFit = codes "too-many-neighbours"
 word_of ThingFree = codes "thing-stuck"
 word_of FlatKnown = codes "flat-unknown"
 word_of TextureKnown = codes "texture-unknown"
+word_of TextureReaches = codes "texture-short"
 
 -- a place: its coordinates in decimal, in parentheses
 abbrev pub place_text : Vertex → List ℕ

@@ -8,9 +8,12 @@ mod facts;
 mod graphics;
 mod known;
 mod report;
+mod rows;
 mod rules;
+mod short;
 mod starts;
 mod tags;
+mod texture_index;
 mod warning;
 mod whereabouts;
 

@@ -56,6 +56,8 @@ pub enum Rule {
     FlatKnown,
     /// The textures of a line's sides are among those of a WAD.
     TextureKnown,
+    /// A texture of fewer than 128 rows has all rows that a line's walls show of it.
+    TextureReaches,
 }
 
 /// A broken rule, the number of the item that breaks it, and where to look for the item.
@@ -99,6 +101,7 @@ impl Rule {
             Rule::ThingFree => "thing-stuck",
             Rule::FlatKnown => "flat-unknown",
             Rule::TextureKnown => "texture-unknown",
+            Rule::TextureReaches => "texture-short",
         }
     }
 }

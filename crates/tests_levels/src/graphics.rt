@@ -1,27 +1,28 @@
-//! The names of a WAD's flats and textures.
+//! A WAD's flats and textures.
 
 use crate::expect::same;
 use crate::foreign::wad_of;
 use lump_records::Name8;
+use lump_textures::Texture;
 use std::alloc::Global;
 use std::io::Write;
 use std::test::Fail;
 use wad_levels::graphics_in;
 
-// TEXTURE1 with two textures, whose names are at offsets 12 and 20. The second is in small letters, with bytes after
-// its NUL.
-const TWO: &[u8] = b"\x02\0\0\0\x0c\0\0\0\x14\0\0\0BRICK1\0\0step2\0xx";
+// TEXTURE1 with two textures, at offsets 12 and 34, of 72 and of 128 rows. The second name is in small letters, with
+// bytes after its NUL.
+const TWO: &[u8] = b"\x02\0\0\0\x0c\0\0\0\x22\0\0\0\
+    BRICK1\0\0\0\0\0\0\x40\0\x48\0\0\0\0\0\0\0step2\0xx\0\0\0\0\x20\0\x80\0\0\0\0\0\0\0";
 
-// One texture, whose name is at offset 8; the same with the name's last byte outside the lump; and a list without its
-// second offset.
-const ONE: &[u8] = b"\x01\0\0\0\x08\0\0\0SKY4\0\0\0\0";
+// One texture, at offset 8; the same with its last byte outside the lump; and a list without its second offset.
+const ONE: &[u8] = b"\x01\0\0\0\x08\0\0\0SKY4\0\0\0\0\0\0\0\0\0\x01\x80\0\0\0\0\0\0\0";
 
-const PAST: &[u8] = b"\x01\0\0\0\x09\0\0\0SKY4\0\0\0\0";
+const PAST: &[u8] = b"\x01\0\0\0\x09\0\0\0SKY4\0\0\0\0\0\0\0\0\0\x01\x80\0\0\0\0\0\0\0";
 
 const CUT: &[u8] = b"\x02\0\0\0\x08\0\0\0";
 
-// The lumps of a WAD; and the names of its flats, then of its textures, each followed by a space, or the refusal's
-// number.
+// The lumps of a WAD; and the names of its flats, then those of its textures with their rows, each followed by a space,
+// or the refusal's number.
 #[rattlefmt::skip]
 const NAMED: &[(&[(&[u8; 8], &[u8])], &[u8])] = &[
     (&[], b"; "),
@@ -33,8 +34,8 @@ const NAMED: &[(&[(&[u8; 8], &[u8])], &[u8])] = &[
         ],
         b"FLOOR4_8 CEIL3_5 NUKAGE1 ; ",
     ),
-    (&[(b"TEXTURE1", TWO), (b"TEXTURE2", ONE)], b"; BRICK1 STEP2 SKY4 "),
-    (&[(b"TEXTURE2", TWO), (b"TEXTURE1", CUT), (b"TEXTURE1", ONE)], b"; SKY4 BRICK1 STEP2 "),
+    (&[(b"TEXTURE1", TWO), (b"TEXTURE2", ONE)], b"; BRICK1 72 STEP2 128 SKY4 128 "),
+    (&[(b"TEXTURE2", TWO), (b"TEXTURE1", CUT), (b"TEXTURE1", ONE)], b"; SKY4 128 BRICK1 72 STEP2 128 "),
     (&[(b"TEXTURE1", b""), (b"TEXTURE2", b"\0\0\0\0")], b"; "),
     (&[(b"TEXTURE1", PAST)], b"76"),
     (&[(b"TEXTURE1", CUT)], b"76"),
@@ -58,14 +59,23 @@ fn put(names: &[Name8], text: &mut Vec<u8>) -> Result<(), Fail> {
     Ok(())
 }
 
-// The names of flats, then of textures, or the refusal's number.
+// Appends the textures: the name and the rows of each, each followed by a space.
+fn put_textures(textures: &[Texture], text: &mut Vec<u8>) -> Result<(), Fail> {
+    for texture in textures {
+        put(&[texture.name], text)?;
+        write!(text, "{} ", texture.height)?;
+    }
+    Ok(())
+}
+
+// The names of flats, then the textures, or the refusal's number.
 fn named(alloc: Global, wad: &[u8]) -> Result<Vec<u8>, Fail> {
     let mut text = Vec::new(alloc);
     match graphics_in(alloc, wad) {
         Ok(graphics) => {
             put(&graphics.flats, &mut text)?;
             text.extend_from_slice(b"; ")?;
-            put(&graphics.textures, &mut text)?;
+            put_textures(&graphics.textures, &mut text)?;
         }
         Err(error) => write!(text, "{}", error.code())?,
     }

@@ -5,7 +5,7 @@ use Rattle.std.specs.Prelude.{◌==◌, ◌*◌, nat_le, nat_lt}
 use Rattle.wad_file.specs.Directory.{entry}
 use Rattle.wad_file.specs.declared.entry.Entry.{Entry}
 use Rattle.std.proofs.lemmas.Bool.Decides.{nat_tests}
-use Rattle.wad_levels.specs.Graphics.{are_flats_open, are_textures, is_flat, graphics_refusal, is_name_inside, texture_at, texture_count}
+use Rattle.wad_levels.specs.Graphics.{are_flats_open, are_textures, is_flat, graphics_refusal, is_texture_inside, texture_at, texture_count}
 use Rattle.wad_levels.specs.Listing.{listing_refusal}
 use Rattle.wad_levels.specs.declared.error.ReadError.{ReadError}
 use Rattle.wad_levels.proofs.RunLemmas.{passing_more}
@@ -62,17 +62,17 @@ last_two false b c all = absurd (cc)
 
 -- what a list of textures promises that isn't empty: its offsets stand in the lump, and each name
 parts : (lump : List ℕ) → are_textures lump ≡ true → (length lump == 0) ≡ false
-    → (nat_le (4 * texture_count lump + 4) (length lump) ≡ true) × (list_all (is_name_inside lump) (range_with_len 0 (texture_count lump)) ≡ true)
+    → (nat_le (4 * texture_count lump + 4) (length lump) ≡ true) × (list_all (is_texture_inside lump) (range_with_len 0 (texture_count lump)) ≡ true)
 parts lump are some =
-    last_two (nat_le 4 (length lump)) (nat_le (4 * texture_count lump + 4) (length lump)) (list_all (is_name_inside lump) (range_with_len 0 (texture_count lump)))
+    last_two (nat_le 4 (length lump)) (nat_le (4 * texture_count lump + 4) (length lump)) (list_all (is_texture_inside lump) (range_with_len 0 (texture_count lump)))
     (or_right (length lump == 0)
-    ((nat_le 4 (length lump) && nat_le (4 * texture_count lump + 4) (length lump)) && list_all (is_name_inside lump) (range_with_len 0 (texture_count lump))) are some)
+    ((nat_le 4 (length lump) && nat_le (4 * texture_count lump + 4) (length lump)) && list_all (is_texture_inside lump) (range_with_len 0 (texture_count lump))) are some)
 
--- the name of each texture stands in the lump
-pub name_stands : (lump : List ℕ) (n : ℕ) → are_textures lump ≡ true → (length lump == 0) ≡ false → n < texture_count lump → texture_at lump n + 8 ≤ length lump
-name_stands lump n are some among =
-    let inside : nat_le (texture_at lump n + 8) (length lump) ≡ true =
-    each_passes (is_name_inside lump) (texture_count lump) n (parts lump are some).1 among in
+-- each texture stands in the lump
+pub texture_stands : (lump : List ℕ) (n : ℕ) → are_textures lump ≡ true → (length lump == 0) ≡ false → n < texture_count lump → texture_at lump n + 22 ≤ length lump
+texture_stands lump n are some among =
+    let inside : nat_le (texture_at lump n + 22) (length lump) ≡ true =
+    each_passes (is_texture_inside lump) (texture_count lump) n (parts lump are some).1 among in
     grind (arith, nat_tests)
 
 -- whether the k-th entry is of a flat, by what is known of those before it

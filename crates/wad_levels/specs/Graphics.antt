@@ -1,11 +1,13 @@
--- The names of a WAD's flats and textures (docs/FORMAT.md, "Flats and textures").
+-- A WAD's flats and textures (docs/FORMAT.md, "Flats and textures").
 use Rattle.std.specs.Prelude.{◌≡◌, ℕ, zero, suc, ◌+◌, ◌*◌, Bool, true, false, not, ◌&&◌, ◌||◌, ◌==◌, nat_lt, nat_le, List, [], ◌∷◌, ◌++◌, length, map, filter, Option, Some, codes}
 use Rattle.std.specs.Char.{to_ascii_uppercase}
 use Rattle.std.specs.List.{list_all, range_with_len}
 use Rattle.std.specs.Option.{option_map_or, option_or}
+use Rattle.lump_records.specs.Fields.{signed_at}
 use Rattle.lump_records.specs.Names.{name_of, name_text}
 use Rattle.lump_records.specs.Records.{name_at}
 use Rattle.lump_records.specs.declared.records.Name8.{Name8}
+use Rattle.lump_textures.specs.declared.texture.Texture.{Texture}
 use Rattle.wad_levels.specs.declared.error.ReadError.{ReadError}
 use Rattle.wad_levels.specs.declared.error.ReadError.TheVariants.{LumpOutside, TextureLump, OutOfMemory}
 use Rattle.wad_levels.specs.declared.graphics.Graphics.{Graphics}
@@ -14,10 +16,10 @@ use Rattle.wad_levels.specs.Listing.{listing_refusal}
 use Rattle.wad_file.specs.Directory.{entry, entry_has_name, first_failed, is_outside, lump_count, standing}
 use Rattle.wad_file.specs.Fields.{long_at}
 
--- the names of flats and of textures
+-- the names of flats, and textures
 pub record GraphicNames : Type 0 where
   pub flats : List Name8
-  pub textures : List Name8
+  pub textures : List Texture
 
 -- a name in capitals, with NUL behind its text
 abbrev pub capital_name : Name8 → Name8
@@ -50,28 +52,35 @@ flat_names wad = map (flat_name wad) (filter (is_flat wad) (range_with_len 0 (lu
 abbrev pub texture_count : List ℕ → ℕ
 texture_count lump = long_at 0 lump
 
--- where the name of the n-th one stands
+-- where the n-th one stands
 abbrev pub texture_at : List ℕ → ℕ → ℕ
 texture_at lump n = long_at (4 * n + 4) lump
 
--- that name stands in the lump
-abbrev pub is_name_inside : List ℕ → ℕ → Bool
-is_name_inside lump n = nat_le (texture_at lump n + 8) (length lump)
+-- the first 22 bytes of it stand in the lump: its name, its size, and how many patches it has
+abbrev pub is_texture_inside : List ℕ → ℕ → Bool
+is_texture_inside lump n = nat_le (texture_at lump n + 22) (length lump)
 
--- the lump is empty, or a list of textures: their count, the offset of each, and at each offset a name
+-- the lump is empty, or a list of textures: their count, the offset of each, and at each offset one
 abbrev pub are_textures : List ℕ → Bool
 are_textures lump =
     (length lump == 0)
     || (nat_le 4 (length lump) && nat_le (4 * texture_count lump + 4) (length lump)
-    && list_all (is_name_inside lump) (range_with_len 0 (texture_count lump)))
+    && list_all (is_texture_inside lump) (range_with_len 0 (texture_count lump)))
 
--- the name of the n-th texture in capitals
-abbrev pub texture_name : List ℕ → ℕ → Name8
-texture_name lump n = capital_name (name_at (texture_at lump n) lump)
+-- the texture that stands at a place: its name in capitals, and its height
+abbrev pub texture_from : List ℕ → ℕ → Texture
+texture_from lump at = record {
+  name = capital_name (name_at at lump);
+  height = signed_at (at + 14) lump;
+}
 
--- the names of the lump's textures
-abbrev pub texture_names : List ℕ → List Name8
-texture_names lump = map (texture_name lump) (range_with_len 0 (texture_count lump))
+-- the n-th texture
+abbrev pub nth_texture : List ℕ → ℕ → Texture
+nth_texture lump n = texture_from lump (texture_at lump n)
+
+-- the lump's textures
+abbrev pub textures_of : List ℕ → List Texture
+textures_of lump = map (nth_texture lump) (range_with_len 0 (texture_count lump))
 
 -- ---- the WAD
 
@@ -84,21 +93,21 @@ stands_inside wad name =
 abbrev pub lump_of_name : List ℕ → List ℕ → List ℕ
 lump_of_name wad name = option_map_or (standing wad) (marker wad name) []
 
--- the names of the flats, and of the textures of TEXTURE1 and behind them of TEXTURE2
+-- the names of the flats, and the textures of TEXTURE1 and behind them those of TEXTURE2
 abbrev pub graphics : List ℕ → GraphicNames
 graphics wad =
     record {
       flats = flat_names wad;
       textures =
-          texture_names (lump_of_name wad (codes "TEXTURE1"))
-          ++ texture_names (lump_of_name wad (codes "TEXTURE2"));
+          textures_of (lump_of_name wad (codes "TEXTURE1"))
+          ++ textures_of (lump_of_name wad (codes "TEXTURE2"));
     }
 
--- the names that a `Graphics` holds
+-- what a `Graphics` holds
 abbrev pub graphics_view : Graphics → GraphicNames
 graphics_view g = record { flats = g.flats.items; textures = g.textures.items }
 
--- the first refusal that holds of bytes whose flats and textures are to be named
+-- the first refusal that holds of bytes whose flats and textures are wanted
 abbrev pub graphics_refusal : List ℕ → Option ReadError
 graphics_refusal wad =
     option_or (listing_refusal wad)

@@ -1,20 +1,22 @@
-//! The names of a WAD's flats and textures.
+//! A WAD's flats and textures.
 ghost use Rattle.std.specs.Prelude.{◌≡◌, ◌+◌, ◌*◌, ◌≤◌, ◌<◌, ◌++◌, true, length, map, IfOk, IsOkUnless, IsTrue, MatchResult, None, OnOk, Option};
 ghost use Rattle.std.specs.Char.{to_ascii_uppercase};
 ghost use Rattle.std.specs.List.{list_all, range_with_len};
 ghost use Rattle.wad_file.specs.Directory.{lump_count};
-ghost use Rattle.wad_levels.specs.Graphics.{RefusesGraphics, are_flats_open, are_textures, capital_name, flat_names, graphics, graphics_refusal, graphics_view, is_name_inside, lump_of_name, stands_inside, texture_count, texture_name, texture_names};
+ghost use Rattle.wad_levels.specs.Graphics.{RefusesGraphics, are_flats_open, are_textures, capital_name, flat_names, graphics, graphics_refusal, graphics_view, is_texture_inside, lump_of_name, stands_inside, texture_count, texture_from, textures_of};
 
 use crate::error::ReadError;
 use crate::listing::read_wad;
+use byteorder::{ByteOrder, LittleEndian};
 use lump_records::Name8;
+use lump_textures::Texture;
 use std::alloc::Global;
 use wad_file::{Wad, long_at, name_at};
 
-/// The names of a WAD's flats and textures, in capitals, each padded with NUL.
+/// The names of a WAD's flats, in capitals and padded with NUL, and its textures.
 pub struct Graphics {
     pub flats: Vec<Name8>,
-    pub textures: Vec<Name8>,
+    pub textures: Vec<Texture>,
 }
 
 // A call of its own, so that the owner of the names drops them in one step.
@@ -91,22 +93,22 @@ fn texture_count(lump: &[u8]) -> u32
     long_at(lump, 0)
 }
 
-// Whether the name of the n-th texture lies inside the lump.
-fn is_name_inside(lump: &[u8], n: u32) -> bool
+// Whether the first 22 bytes of the n-th texture lie inside the lump.
+fn is_texture_inside(lump: &[u8], n: u32) -> bool
     requires { 4 * n + 8 ≤ length lump.now }
-    ensures { result ≡ is_name_inside lump.now n }
+    ensures { result ≡ is_texture_inside lump.now n }
 {
-    u64::from(long_at(lump, 4 * n as usize + 4)) + 8 <= lump.len() as u64
+    u64::from(long_at(lump, 4 * n as usize + 4)) + 22 <= lump.len() as u64
 }
 
-// Whether the names of all textures lie inside the lump. Their offsets do.
-fn are_names_inside(lump: &[u8]) -> bool
+// Whether all textures lie inside the lump. Their offsets do.
+fn are_all_inside(lump: &[u8]) -> bool
     requires { 4 * texture_count lump.now + 4 ≤ length lump.now }
     ensures { result
-        ≡ list_all (is_name_inside lump.now) (range_with_len 0 (texture_count lump.now)) }
+        ≡ list_all (is_texture_inside lump.now) (range_with_len 0 (texture_count lump.now)) }
 {
     for n in 0..texture_count(lump) {
-        if !is_name_inside(lump, n) {
+        if !is_texture_inside(lump, n) {
             return false;
         }
     }
@@ -120,13 +122,25 @@ fn are_textures(lump: &[u8]) -> bool
     if lump.len() < 4 {
         return lump.is_empty();
     }
-    4 * u64::from(texture_count(lump)) + 4 <= lump.len() as u64 && are_names_inside(lump)
+    4 * u64::from(texture_count(lump)) + 4 <= lump.len() as u64 && are_all_inside(lump)
 }
 
-// Appends the names of the lump's textures to the list.
-fn add_textures(lump: &[u8], names: &mut Vec<Name8>) -> Result<(), ReadError>
+// The texture that stands at a place of the lump.
+fn texture_from(lump: &[u8], at: usize) -> Texture
+    requires { at + 22 ≤ length lump.now }
+    ensures { result ≡ texture_from lump.now at }
+{
+    Texture {
+        name: capital_name(name_at(lump, at)),
+        height: LittleEndian::read_i16(&lump[at + 14..]),
+    }
+}
+
+// Appends the lump's textures to the list.
+fn add_textures(lump: &[u8], textures: &mut Vec<Texture>) -> Result<(), ReadError>
     requires { IsTrue (are_textures lump.now) }
-    ensures names { OnOk result (names.new.items ≡ names.old.items ++ texture_names lump.now) }
+    ensures added { OnOk result (textures.new.items
+        ≡ textures.old.items ++ textures_of lump.now) }
     ensures memory { IsOkUnless result ReadError.OutOfMemory }
 {
     if lump.is_empty() {
@@ -134,12 +148,12 @@ fn add_textures(lump: &[u8], names: &mut Vec<Name8>) -> Result<(), ReadError>
     }
     for n in 0..texture_count(lump) {
         let at = long_at(lump, 4 * n as usize + 4) as usize;
-        names.push(capital_name(name_at(lump, at)))?;
+        textures.push(texture_from(lump, at))?;
     }
     Ok(())
 }
 
-// The names of the flats and of the textures of two lumps.
+// The names of the flats, and the textures of two lumps.
 fn graphics_of(
     alloc: Global,
     wad: &Wad<'_>,
@@ -150,7 +164,7 @@ fn graphics_of(
     requires second { IsTrue (are_textures second.now) }
     ensures flats { IfOk result (λ g. g.flats.items ≡ flat_names wad.now) }
     ensures textures { IfOk result
-        (λ g. g.textures.items ≡ texture_names first.now ++ texture_names second.now) }
+        (λ g. g.textures.items ≡ textures_of first.now ++ textures_of second.now) }
     ensures memory { IsOkUnless result ReadError.OutOfMemory }
 {
     let flats = flats_in(alloc, wad)?;
@@ -160,7 +174,7 @@ fn graphics_of(
     Ok(Graphics { flats, textures })
 }
 
-// The names of the WAD's flats and textures.
+// The WAD's flats and textures.
 fn graphics_named(alloc: Global, wad: &Wad<'_>) -> Result<Graphics, ReadError>
     ensures { MatchResult result
         (λ g. (graphics_refusal wad.now ≡ None) × (graphics_view g ≡ graphics wad.now))
@@ -178,7 +192,7 @@ fn graphics_named(alloc: Global, wad: &Wad<'_>) -> Result<Graphics, ReadError>
     graphics_of(alloc, wad, first, second)
 }
 
-/// The names of a WAD's flats, in the order of its directory, and of its textures, those of TEXTURE1 before those of
+/// The names of a WAD's flats, in the order of its directory, and its textures, those of TEXTURE1 before those of
 /// TEXTURE2 (docs/FORMAT.md, "Flats and textures").
 ///
 /// # Errors

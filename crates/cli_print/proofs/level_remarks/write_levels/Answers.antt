@@ -1,8 +1,7 @@
 use Rattle.std.specs.Prelude.{option_map}
-use Rattle.std.specs.Option.{option_copied}
 use Rattle.std.proofs.Common.{[], refl}
 use Rattle.std.proofs.KnownBytes.{Appends-nil}
-use Rattle.wad_levels.specs.Graphics.{graphics_view}
+use Rattle.cli_print.specs.Choosing.{wants_view}
 use Rattle.cli_print.proofs.LevelLines.{levels_more, levels_stopped}
 use Rattle.cli_print.proofs.level_remarks.write_levels.Goals as goal
 
@@ -11,12 +10,12 @@ loop-level-init g c = ([], refl, refl, Appends-nil (g.W.Write.contents c.args.wr
 
 pub loop-level-preserved : goal.loop-level-preserved
 loop-level-preserved g c =
-    levels_more (option_map graphics_view (option_copied c.args.names)) c.args.wad.now c.args.levels.now c.loop-level.level-index _ c.loop-level.count c.in-Ok.sum
+    levels_more (wants_view c.args.wants) c.args.wad.now c.args.levels.now c.loop-level.level-index _ c.loop-level.count c.in-Ok.sum
     (g.W.Write.contents c.args.writer.now) (g.W.Write.contents c.loop-level.writer) (g.W.Write.contents c.write_level.new.writer) c.loop-level-test.true
     c.loop-level.invariant c.in-Ok.ensures
 
 pub returns-in-Err : goal.returns-in-Err
 returns-in-Err g c =
-    levels_stopped (option_map graphics_view (option_copied c.args.names)) c.args.wad.now c.args.levels.now c.loop-level.level-index _ c.loop-level.count c.in-Err.error
+    levels_stopped (wants_view c.args.wants) c.args.wad.now c.args.levels.now c.loop-level.level-index _ c.loop-level.count c.in-Err.error
     (g.W.Write.contents c.args.writer.now) (g.W.Write.contents c.loop-level.writer) (g.W.Write.contents c.write_level.new.writer) c.loop-level-test.true
     c.loop-level.invariant c.in-Err.ensures

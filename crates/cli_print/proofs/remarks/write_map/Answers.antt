@@ -1,22 +1,21 @@
 use Rattle.std.proofs.Common.{◌≡◌, ◌∙◌, ◌+◌, ap, arith, length}
 use Rattle.std.specs.Prelude.{option_map}
-use Rattle.std.specs.Option.{option_copied}
 use Rattle.lump_records.specs.Names.{name_text}
 use Rattle.lump_records.specs.declared.records.Name8.{Name8}
-use Rattle.map_checks.specs.Findings.{findings}
-use Rattle.wad_levels.specs.Graphics.{graphics_view}
-use Rattle.cli_print.proofs.Linting.{all_warnings, map_written}
+use Rattle.cli_print.specs.Choosing.{wants_view}
+use Rattle.cli_print.specs.Linting.{wanted_warnings}
+use Rattle.cli_print.proofs.Linting.{map_written, wanted_findings}
 use Rattle.cli_print.proofs.remarks.write_map.Goals as goal
 
-pub returns-in-Ok-write_both : goal.returns-in-Ok-write_both
-returns-in-Ok-write_both g c =
+pub returns-in-Ok : goal.returns-in-Ok
+returns-in-Ok g c =
     let m = c.args.map.now.tables in
-    let names = option_map graphics_view (option_copied c.args.names) in
+    let wants = wants_view c.args.wants in
     let found = c.deref.result.now in
     let warned = c.deref-2.result.now in
     let named : c.text.result.now ≡ name_text m.name = c.text.ensures.text ∙ ap (λ (n : Name8). name_text n) c.name-name.ensures in
-    let is : found ≡ findings m = c.deref.ensures.value ∙ c.in-Ok.ensures.found in
-    let are : warned ≡ all_warnings names m = c.deref-2.ensures.value ∙ c.in_ok-warned.ensures.found in
+    let is : found ≡ wanted_findings wants m = c.deref.ensures.value ∙ c.in_ok-found.ensures.found in
+    let are : warned ≡ wanted_warnings wants m = c.deref-2.ensures.value ∙ c.in_ok-warned.ensures.found in
     let sum : c.in_ok-count.count ≡ c.args.before + length found + length warned =
     omega (
       arith,
@@ -26,8 +25,8 @@ returns-in-Ok-write_both g c =
       c.len-2.ensures,
       c.deref.ensures.len,
       c.deref-2.ensures.len,
-      c.in-Ok.found.ok.0,
+      c.in_ok-found.found.ok.0,
       c.in_ok-warned.warned.ok.0,
     ) in
-    map_written names m c.text.result.now found warned c.args.before c.in_ok-count.count (g.W.Write.contents c.args.writer.now)
-    (g.W.Write.contents c.write_both.new.writer) named is are sum c.in-Ok-write_both.ensures
+    map_written wants m c.text.result.now found warned c.args.before c.in_ok-count.count (g.W.Write.contents c.args.writer.now)
+    (g.W.Write.contents c.write_both.new.writer) named is are sum c.in-Ok.ensures

@@ -1,10 +1,9 @@
 use Rattle.std.proofs.Common.{◌<◌, ◌≤◌, List, arith, get_or, length, refl, subst}
 use Rattle.std.specs.Prelude.{option_map}
-use Rattle.std.specs.Option.{option_copied}
 use Rattle.std.proofs.KnownBytes.{Appends-nil}
 use Rattle.std.proofs.lemmas.List.{take_all}
 use Rattle.std.proofs.lemmas.Option.{slice_get-get_or}
-use Rattle.wad_levels.specs.Graphics.{graphics_view}
+use Rattle.cli_print.specs.Choosing.{wants_view}
 use Rattle.map_tables.specs.Projects.{project_of}
 use Rattle.map_tables.specs.Tables.{Tables, empty_tables}
 use Rattle.cli_print.proofs.Linting.{HasSaid, maps_more, maps_stopped}
@@ -17,7 +16,7 @@ pub loop-n-preserved : goal.loop-n-preserved
 loop-n-preserved g c =
     let ms : List Tables = (project_of c.args.maps.now).maps in
     let within : c.loop-n.n < length ms = omega (arith, c.len-n-end.ensures.value, c.loop-n-test.true) in
-    maps_more (option_map graphics_view (option_copied c.args.names)) ms c.loop-n.n c.loop-n.count c.in-Ok.sum (g.W.Write.contents c.args.writer.now) (g.W.Write.contents c.loop-n.writer)
+    maps_more (wants_view c.args.wants) ms c.loop-n.n c.loop-n.count c.in-Ok.sum (g.W.Write.contents c.args.writer.now) (g.W.Write.contents c.loop-n.writer)
     (g.W.Write.contents c.write_nth.new.writer) within c.loop-n.invariant
     (c.in-Ok.ensures (get_or ms c.loop-n.n empty_tables) (slice_get-get_or ms c.loop-n.n empty_tables within))
 
@@ -25,7 +24,7 @@ pub returns-in-Err : goal.returns-in-Err
 returns-in-Err g c =
     let ms : List Tables = (project_of c.args.maps.now).maps in
     let within : c.loop-n.n < length ms = omega (arith, c.len-n-end.ensures.value, c.loop-n-test.true) in
-    maps_stopped (option_map graphics_view (option_copied c.args.names)) ms c.loop-n.n c.loop-n.count c.in-Err.error (g.W.Write.contents c.args.writer.now) (g.W.Write.contents c.loop-n.writer)
+    maps_stopped (wants_view c.args.wants) ms c.loop-n.n c.loop-n.count c.in-Err.error (g.W.Write.contents c.args.writer.now) (g.W.Write.contents c.loop-n.writer)
     (g.W.Write.contents c.write_nth.new.writer) within c.loop-n.invariant
     (c.in-Err.ensures (get_or ms c.loop-n.n empty_tables) (slice_get-get_or ms c.loop-n.n empty_tables within))
 
@@ -33,6 +32,6 @@ pub returns : goal.returns
 returns g c =
     let ms : List Tables = (project_of c.args.maps.now).maps in
     let whole : length ms ≤ c.loop-n.n = omega (arith, c.len-n-end.ensures.value, c.loop-n-test.false) in
-    let said = subst (λ (ks : List Tables). HasSaid (option_map graphics_view (option_copied c.args.names)) ks c.loop-n.count (g.W.Write.contents c.args.writer.now) (g.W.Write.contents c.loop-n.writer))
+    let said = subst (λ (ks : List Tables). HasSaid (wants_view c.args.wants) ks c.loop-n.count (g.W.Write.contents c.args.writer.now) (g.W.Write.contents c.loop-n.writer))
     (take_all c.loop-n.n ms whole) c.loop-n.invariant in
     (omega (arith, said.0), said.1)

@@ -9,11 +9,13 @@ returns-in-Check-clause-done g c =
 
 pub returns-in-Lint-clause-done : goal.returns-in-Lint-clause-done
 returns-in-Lint-clause-done g c =
-    rw c.in-Lint.is (linted_as _ _ _ _ _ _ _ _ _ _ _ c.as_str-in-Lint.ensures.value c.as_deref-iwad.ensures.variant c.as_deref-map-in-Lint.ensures.value c.lint_file.ensures.linted)
+    rw c.in-Lint.is (linted_as _ _ _ _ _ _ _ _ _ _ _ _ _ c.as_str-in-Lint.ensures.value c.as_deref-iwad.ensures.variant
+    (λ i. record { only = map string_bytes (c.deref.ensures.value i); except = map string_bytes (c.deref-in-Lint.ensures.value i) })
+    c.as_deref-map-in-Lint.ensures.value c.lint_file.ensures.linted)
 
 pub returns-in-Dump-clause-done : goal.returns-in-Dump-clause-done
 returns-in-Dump-clause-done g c =
-    rw c.in-Dump.is (dumped_as _ _ _ _ _ _ _ _ _ _ c.as_str-in-Dump.ensures.value (ap (map string_bytes) c.deref.ensures.value) c.dump_file.ensures.dumped)
+    rw c.in-Dump.is (dumped_as _ _ _ _ _ _ _ _ _ _ c.as_str-in-Dump.ensures.value (ap (map string_bytes) c.deref-in-Dump.ensures.value) c.dump_file.ensures.dumped)
 
 pub returns-in-Picture-clause-done : goal.returns-in-Picture-clause-done
 returns-in-Picture-clause-done g c =

@@ -4,4 +4,4 @@ use Rattle.map_lint.proofs.graphics.lint_graphics.Given as goal
 
 abbrev pub invariant-loop-rule : goal.invariant-loop-rule
 invariant-loop-rule l =
-    l.found.items ≡ flat_map (graphic_breaches l.flats.names.now l.textures.names.now l.map.tables) (take l.rule-index l.rule-items)
+    l.found.items ≡ flat_map (graphic_breaches l.flats.names.now l.textures.textures.now l.map.tables) (take l.rule-index l.rule-items)

@@ -14,7 +14,7 @@ loop-n-preserved c =
     let rule = c.args.rule in
     let n = c.loop-n.n in
     let more =
-    marked_more (warning_of m rule) (graphic_breaks c.args.flats.now.names.now c.args.textures.now.names.now m rule) n c.args.found.now.items
+    marked_more (warning_of m rule) (graphic_breaks c.args.flats.now.names.now c.args.textures.now.textures.now m rule) n c.args.found.now.items
     c.loop-n.found.items c.loop-n.invariant in
     let warned : Whereabouts → List Warning = λ w. c.loop-n.found.items ++ (record { rule = rule; number = n; whereabouts = w }) ∷ [] in
     elim c.if-graphic_breaks.branch [

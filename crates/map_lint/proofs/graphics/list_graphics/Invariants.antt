@@ -7,4 +7,4 @@ use Rattle.map_lint.proofs.graphics.list_graphics.Given as goal
 abbrev pub invariant-loop-n : goal.invariant-loop-n
 invariant-loop-n l =
     l.found.items ≡ l.initial.found.items ++ map (warning_of l.map.tables l.rule)
-    (filter (graphic_breaks l.flats.names.now l.textures.names.now l.map.tables l.rule) (range_with_len 0 l.n))
+    (filter (graphic_breaks l.flats.names.now l.textures.textures.now l.map.tables l.rule) (range_with_len 0 l.n))

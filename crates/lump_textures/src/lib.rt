@@ -1,0 +1,6 @@
+//! What is known of a texture of a WAD.
+#![tactic(auto)]
+
+mod texture;
+
+pub use texture::Texture;

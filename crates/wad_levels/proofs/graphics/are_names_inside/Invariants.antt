@@ -1,7 +1,0 @@
-use Rattle.std.specs.Prelude.{◌≡◌, true}
-use Rattle.std.specs.List.{list_all, range_with_len}
-use Rattle.wad_levels.specs.Graphics.{is_name_inside}
-use Rattle.wad_levels.proofs.graphics.are_names_inside.Given as goal
-
-abbrev pub invariant-loop-n : goal.invariant-loop-n
-invariant-loop-n l = list_all (is_name_inside l.lump) (range_with_len 0 l.n) ≡ true
