@@ -11,7 +11,6 @@ use Rattle.map_tables.specs.Tables.{Tables, empty_tables}
 use Rattle.map_checks.specs.Findings.{findings}
 use Rattle.map_checks.specs.Texts.{finding_text}
 use Rattle.map_checks.specs.declared.finding.Finding.{Finding}
-use Rattle.map_lint.specs.Rules.{warnings}
 use Rattle.map_lint.specs.Texts.{warning_text}
 use Rattle.map_lint.specs.declared.warning.Warning.{Warning}
 use Rattle.map_dump.specs.Texts.{WritesFront, with_lf, text_of}

@@ -1,9 +1,9 @@
 -- What the program's arguments ask for (docs/COMMANDS.md, "The program").
-use Rattle.std.specs.Prelude.{◌≡◌, ◌<◌, ◌≤◌, ◌⊎◌, ℕ, Bool, Some, None, List, [], codes, length, Option, is_some, map, option_map, unwrap_or, string_bytes, true, false, IsSomeAnd}
+use Rattle.std.specs.Prelude.{◌≡◌, ◌<◌, ◌≤◌, ◌⊎◌, ℕ, Bool, Some, None, List, [], codes, length, is_some, map, option_map, string_bytes, true, false, IsSomeAnd}
 use Rattle.std.specs.Option.{option_map_or}
 use Rattle.std.specs.Str.{bytes_eq}
 use Rattle.std.specs.Str.Parse.{IsNumeral, digits_value, without_leading_plus}
-use Rattle.clap.specs.Words.{HasKind, all_of, fault_of, first_of, Row, Text, one_of, subcommand_of, takes}
+use Rattle.clap.specs.Words.{HasKind, fault_of, first_of, Row, Text, one_of, subcommand_of, takes}
 use Rattle.clap.specs.Values.{kind_of}
 use Rattle.clap.specs.declared.error.kind.ErrorKind.TheVariants.{OutOfMemory}
 use Rattle.cli_words.specs.App.{leveled_app}

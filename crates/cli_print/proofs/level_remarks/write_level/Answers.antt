@@ -1,5 +1,4 @@
 use Rattle.std.proofs.Common.{rules}
-use Rattle.std.specs.Prelude.{option_map}
 use Rattle.cli_print.specs.Choosing.{wants_view}
 use Rattle.cli_print.proofs.LevelLines.{level_lost, refusal_told}
 use Rattle.cli_print.proofs.level_remarks.write_level.Goals as goal

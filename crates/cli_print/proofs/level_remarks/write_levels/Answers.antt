@@ -1,4 +1,3 @@
-use Rattle.std.specs.Prelude.{option_map}
 use Rattle.std.proofs.Common.{[], refl}
 use Rattle.std.proofs.KnownBytes.{Appends-nil}
 use Rattle.cli_print.specs.Choosing.{wants_view}

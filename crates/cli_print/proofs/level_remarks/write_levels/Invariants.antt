@@ -1,4 +1,4 @@
-use Rattle.std.specs.Prelude.{option_map, take}
+use Rattle.std.specs.Prelude.{take}
 use Rattle.cli_print.specs.Choosing.{wants_view}
 use Rattle.cli_print.proofs.LevelLines.{HasSaidOf}
 use Rattle.cli_print.proofs.level_remarks.write_levels.Given as goal

@@ -1,4 +1,3 @@
-use Rattle.std.specs.Prelude.{option_map}
 use Rattle.cli_print.specs.Choosing.{wants_view}
 use Rattle.cli_print.specs.Linting.{remarks}
 use Rattle.cli_print.proofs.Linting.{total_told}

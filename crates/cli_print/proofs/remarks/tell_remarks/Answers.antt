@@ -1,4 +1,3 @@
-use Rattle.std.specs.Prelude.{option_map}
 use Rattle.cli_print.specs.Choosing.{wants_view}
 use Rattle.map_tables.specs.Projects.{project_of}
 use Rattle.cli_print.specs.Linting.{lint_of}

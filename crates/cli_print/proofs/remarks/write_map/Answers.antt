@@ -1,5 +1,4 @@
 use Rattle.std.proofs.Common.{◌≡◌, ◌∙◌, ◌+◌, ap, arith, length}
-use Rattle.std.specs.Prelude.{option_map}
 use Rattle.lump_records.specs.Names.{name_text}
 use Rattle.lump_records.specs.declared.records.Name8.{Name8}
 use Rattle.cli_print.specs.Choosing.{wants_view}

@@ -1,4 +1,4 @@
-use Rattle.std.specs.Prelude.{option_map, take}
+use Rattle.std.specs.Prelude.{take}
 use Rattle.cli_print.specs.Choosing.{wants_view}
 use Rattle.map_tables.specs.Projects.{project_of}
 use Rattle.cli_print.proofs.Linting.{HasSaid}

@@ -1,4 +1,4 @@
-use Rattle.std.specs.Prelude.{option_map, slice_get}
+use Rattle.std.specs.Prelude.{slice_get}
 use Rattle.cli_print.specs.Choosing.{wants_view}
 use Rattle.map_tables.specs.Projects.{project_of}
 use Rattle.cli_print.proofs.Linting.{none_there, remarks_told}

@@ -1,4 +1,4 @@
-use Rattle.std.proofs.Common.{◌≡◌, ◌∙◌, Some, ap, false, true, sym, get_or, string_bytes, arith}
+use Rattle.std.proofs.Common.{◌≡◌, ◌∙◌, Some, ap, false, true, sym, get_or, string_bytes}
 use Rattle.std.specs.Prelude.{not}
 use Rattle.cli_words.specs.RuleWords.{is_rule_word}
 use Rattle.cli_words.proofs.UnknownWords.{found, not_yet}
