@@ -99,6 +99,15 @@ fn answer_words(rt: &HostRuntime, error: &Error) -> u8
     after_printing(rt, error.print(rt).is_ok())
 }
 
+// Reports a word that no rule has. It may have any bytes.
+fn complain_of_rule(rt: &HostRuntime, error: &RequestError) {
+    let Ok(told) = format!(in rt.alloc(); "leveled: {error}; the words are:") else {
+        complain_of_memory(rt);
+        return;
+    };
+    let _ = write_shown_lines(told.as_bytes(), &mut rt.stderr());
+}
+
 // Prints the words by which `lint` chooses rules, a line each.
 fn print_rule_words(rt: &HostRuntime) {
     for word in RULE_WORDS {
@@ -119,7 +128,7 @@ fn refuse(rt: &HostRuntime, error: &RequestError) -> u8
             NO_REQUEST
         }
         RequestError::NotARule(_) => {
-            let _ = eprintln!(rt; "leveled: {error}; the words are:");
+            complain_of_rule(rt, error);
             print_rule_words(rt);
             NO_REQUEST
         }
