@@ -15,9 +15,9 @@ const GEOMETRY: Geometry = Geometry {
     journal: 512,
 };
 
-// How many vertices are drawn, each by a line of 10 bytes; how many are on the disk between two puts; and how many bytes
-// of a failing write are still written. For a line that has no room in the journal a checkpoint comes first, and then it
-// is put alone.
+// How many vertices are drawn, each by a line of 10 bytes; how many are on the disk between two puts; and how many
+// bytes of a failing write are still written. For a line that has no room in the journal a checkpoint comes first, and
+// then it is put alone.
 const RUNS: &[(u32, &[u32], &[u32])] = &[
     (1, &[0, 1], &[0, 1, 7, 999]),
     (2, &[0, 2], &[0, 1, 20, 999]),
