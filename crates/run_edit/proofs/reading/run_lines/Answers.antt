@@ -2,8 +2,7 @@ use Rattle.std.proofs.Common.{◌≡◌, ◌++◌, [], ◌≤◌, ◌*◌, ◌+�
 use Rattle.std.proofs.lemmas.Grind.{common_steps}
 use Rattle.run_edit.specs.Lines.{whole_lines, unfinished, line_if_any, lines_of}
 use Rattle.run_edit.specs.Runs.{none_waits}
-use Rattle.run_edit.specs.declared.error.EditorError.TheVariants.{InputTooLong, ReaderFailed}
-use Rattle.run_edit.proofs.Going.{Consumes-append, Consumes-end, Feeds-none, Feeds-ok, Feeds-err, Ran-cut, Ran-lost, Ran-ok, begun-none, both, further}
+use Rattle.run_edit.proofs.Going.{Consumes-append, Consumes-end, Feeds-ok, Feeds-err, Ran-lost, Ran-ok, both, further}
 use Rattle.run_edit.proofs.reading.run_lines.Goals as goal
 
 pub loop-preserved : goal.loop-preserved
