@@ -27,7 +27,9 @@ fn grid(alloc: Global, apart: i32) -> Result<Maps, Fail> {
     let mut maps = drawn(alloc, &[SECTOR, b"side 0 0 - - - 0"])?;
     for n in 0..64i32 {
         let mut text = String::new(alloc);
-        write!(text, "vertex {} {}", n % 8 * apart, n / 8 * apart)?;
+        let x = (n % 8).wrapping_mul(apart);
+        let y = (n / 8).wrapping_mul(apart);
+        write!(text, "vertex {x} {y}")?;
         answer(&mut maps, text.as_bytes(), AMPLE)?;
     }
     Ok(maps)
@@ -36,7 +38,7 @@ fn grid(alloc: Global, apart: i32) -> Result<Maps, Fail> {
 // Draws the n-th line, from one of the vertices to one of the three behind it.
 fn draw_line(alloc: Global, maps: &mut Maps, seed: u32, n: u32) -> Result<(), Fail> {
     let from = mixed(seed, n) % 64;
-    let to = (from + 1 + mixed(seed, n + 1000) % 21) % 64;
+    let to = (from + 1 + mixed(seed, n.wrapping_add(1000)) % 21) % 64;
     let mut text = String::new(alloc);
     write!(text, "line {from} {to} 4 0 0 0 0")?;
     answer(maps, text.as_bytes(), AMPLE)?;
