@@ -29,9 +29,6 @@ impl Model for WadWriter {
 ghost use Rattle.std.specs.Prelude.{◌≡◌, ◌++◌, ◌≤◌, length, drop, flat_map, OnOk, IfOk};
 ghost use Rattle.wad_file.specs.Lumps.{entry_bytes, long};
 
-// A WAD has fewer bytes than this.
-const LIMIT: u128 = 0x1_0000_0000;
-
 // Appends a 32-bit number, the lowest byte first.
 fn put_long(bytes: &mut Vec<u8>, n: u32) -> Result<(), AllocError>
     ensures { OnOk result (bytes.new.items ≡ bytes.old.items ++ long n) }
@@ -83,7 +80,7 @@ fn write_over(bytes: &mut [u8], head: &[u8])
 }
 
 impl WadWriter {
-    ghost use Rattle.std.specs.Prelude.{◌≡◌, ◌++◌, ◌+◌, ◌<◌, [], ◌∷◌, nat_lt, replicate, length, true, OnErr, OnOk, IfOk};
+    ghost use Rattle.std.specs.Prelude.{◌≡◌, ◌++◌, ◌+◌, ◌<◌, [], ◌∷◌, nat_le, replicate, length, true, OnErr, OnOk, IfOk};
     ghost use Rattle.wad_file.specs.Directory.{is_kind};
     ghost use Rattle.wad_file.specs.Drafts.{Puts, Takes, no_lumps};
     ghost use Rattle.wad_file.specs.Lumps.{IsWadOf, wad_of, wad_size};
@@ -103,13 +100,13 @@ impl WadWriter {
         })
     }
 
-    /// Whether the WAD, with `len` bytes more of a lump that then ends, has fewer than four gigabytes.
-    pub fn has_room(&self, len: usize) -> bool
+    /// Whether the WAD, with `len` bytes more of a lump that then ends, has at most `most` bytes.
+    pub fn has_room(&self, len: usize, most: u64) -> bool
         ensures { result
-            ≡ nat_lt (wad_size self.now.lumps + length self.now.begun + len + 16) 4294967296 }
+            ≡ nat_le (wad_size self.now.lumps + length self.now.begun + len + 16) most }
     {
         let entries = 16 * (self.entries.len() as u128 + 1);
-        self.bytes.len() as u128 + len as u128 + entries < LIMIT
+        self.bytes.len() as u128 + len as u128 + entries <= u128::from(most)
     }
 
     /// Appends bytes to the lump that is begun.

@@ -9,10 +9,10 @@ use Rattle.wad_file.proofs.DirectoryLemmas.{inside_at}
 use Rattle.lump_records.specs.declared.records.Name8.{Name8}
 use Rattle.wad_build.specs.Wad.{with_names}
 use Rattle.wad_file.specs.Lumps.{Lump, lump_at, lumps_between}
-use Rattle.wad_rebuild.specs.Parts.{AddsLumps, HasLumps, RefusesPut, lumps_up_to}
-use Rattle.wad_file.specs.Drafts.{Draft, Takes}
+use Rattle.wad_rebuild.specs.Parts.{AddsLumps, IsWithin, HasLumps, RefusesPut, lumps_up_to}
 use Rattle.wad_rebuild.specs.Rebuilt.{lumps_after, lumps_from, sizes_below, ten_bytes, ten_lumps}
 use Rattle.wad_rebuild.specs.declared.error.RebuildError.{RebuildError}
+use Rattle.wad_rebuild.specs.declared.parts.BoundedWad.{BoundedWad}
 use Rattle.wad_rebuild.specs.declared.levels.RebuiltLevel.{RebuiltLevel}
 use Rattle.wad_rebuild.specs.declared.made.MadeLumps.{MadeLumps}
 use Rattle.wad_rebuild.proofs.AddLemmas.{add_all, add_both, add_next, add_none, refuse_behind, refuse_front, refuse_next}
@@ -36,7 +36,7 @@ between_here : (wad : List ℕ) (from end k : ℕ) → from ≤ k → k < end �
 between_here wad from end k low high = let n = between_long wad from end in omega (arith, n)
 
 pub between_next :
-    (wad : List ℕ) (from end k : ℕ) (a b c : Draft) → from ≤ k → k < end → AddsLumps a b (take (k - from) (lumps_between wad from end))
+    (wad : List ℕ) (from end k : ℕ) (a b c : BoundedWad) → from ≤ k → k < end → AddsLumps a b (take (k - from) (lumps_between wad from end))
     → AddsLumps b c (lump_at wad k ∷ []) → AddsLumps a c (take (k + 1 - from) (lumps_between wad from end))
 between_next wad from end k a b c low high p q =
     let s : k - from + 1 ≡ k + 1 - from = omega arith in
@@ -44,18 +44,18 @@ between_next wad from end k a b c low high p q =
     (add_next a b c (lumps_between wad from end) (k - from) (lump_at wad k) (between_here wad from end k low high) (between_at wad from end k (lump_at wad k) low high) p q)
 
 pub between_refuses :
-    (wad : List ℕ) (from end k : ℕ) (a b : Draft) (e : RebuildError) → from ≤ k → k < end → AddsLumps a b (take (k - from) (lumps_between wad from end))
+    (wad : List ℕ) (from end k : ℕ) (a b : BoundedWad) (e : RebuildError) → from ≤ k → k < end → AddsLumps a b (take (k - from) (lumps_between wad from end))
     → RefusesPut b (lump_at wad k ∷ []) e → RefusesPut a (lumps_between wad from end) e
 between_refuses wad from end k a b e low high p r =
     refuse_next a b (lumps_between wad from end) (k - from) (lump_at wad k) e (between_here wad from end k low high) (between_at wad from end k (lump_at wad k) low high) p r
 
-pub between_none : (xs : List Lump) (from : ℕ) (a : Draft) → Takes a [] → AddsLumps a a (take (from - from) xs)
+pub between_none : (xs : List Lump) (from : ℕ) (a : BoundedWad) → IsWithin a → AddsLumps a a (take (from - from) xs)
 between_none xs from a t =
     let z : from - from ≡ 0 = omega arith in
     subst (λ (n : ℕ). AddsLumps a a (take n xs)) (sym z) (add_none a t)
 
 pub between_all :
-    (wad : List ℕ) (from end k : ℕ) (a b : Draft) → end ≤ k → AddsLumps a b (take (k - from) (lumps_between wad from end)) → AddsLumps a b (lumps_between wad from end)
+    (wad : List ℕ) (from end k : ℕ) (a b : BoundedWad) → end ≤ k → AddsLumps a b (take (k - from) (lumps_between wad from end)) → AddsLumps a b (lumps_between wad from end)
 between_all wad from end k a b h p =
     let n = between_long wad from end in
     add_all a b (lumps_between wad from end) (k - from) (omega (arith, n)) p
@@ -88,26 +88,26 @@ abbrev ten_lump : ℕ → Name8 → List ℕ → Lump
 ten_lump n d bytes = record { name = get_or lump_names n d; bytes = bytes }
 
 pub ten_next :
-    (wad : List ℕ) (l : LevelEntries) (m : MadeLumps) (n : ℕ) (d : Name8) (bytes : List ℕ) (a b c : Draft) → n < 10
+    (wad : List ℕ) (l : LevelEntries) (m : MadeLumps) (n : ℕ) (d : Name8) (bytes : List ℕ) (a b c : BoundedWad) → n < 10
     → bytes ≡ get_or (ten_bytes wad l m) n [] → AddsLumps a b (take n (ten_lumps wad l m)) → AddsLumps b c (record { name = get_or lump_names n d; bytes = bytes } ∷ [])
     → AddsLumps a c (take (n + 1) (ten_lumps wad l m))
 ten_next wad l m n d bytes a b c h g p q =
     add_next a b c (ten_lumps wad l m) n (ten_lump n d bytes) h (named_at lump_names (ten_bytes wad l m) n d bytes (ten_lump n d bytes) refl h (sym g)) p q
 
 pub ten_refuses :
-    (wad : List ℕ) (l : LevelEntries) (m : MadeLumps) (n : ℕ) (d : Name8) (bytes : List ℕ) (a b : Draft) (e : RebuildError) → n < 10
+    (wad : List ℕ) (l : LevelEntries) (m : MadeLumps) (n : ℕ) (d : Name8) (bytes : List ℕ) (a b : BoundedWad) (e : RebuildError) → n < 10
     → bytes ≡ get_or (ten_bytes wad l m) n [] → AddsLumps a b (take n (ten_lumps wad l m)) → RefusesPut b (record { name = get_or lump_names n d; bytes = bytes } ∷ []) e
     → RefusesPut a (ten_lumps wad l m) e
 ten_refuses wad l m n d bytes a b e h g p r =
     refuse_next a b (ten_lumps wad l m) n (ten_lump n d bytes) e h (named_at lump_names (ten_bytes wad l m) n d bytes (ten_lump n d bytes) refl h (sym g)) p r
 
 -- ---- what was appended of a WAD up to the k-th entry, before the levels that are left
-pub record IsPutUpTo (wad : List ℕ) (levels left : List RebuiltLevel) (k : ℕ) (a b : Draft) : Type 0 where
+pub record IsPutUpTo (wad : List ℕ) (levels left : List RebuiltLevel) (k : ℕ) (a b : BoundedWad) : Type 0 where
   pub done : List Lump
   pub are : AddsLumps a b done
   pub whole : lumps_from wad 0 levels ≡ done ++ lumps_from wad k left
 
-pub begun_up_to : (wad : List ℕ) (levels : List RebuiltLevel) (a : Draft) → Takes a [] → IsPutUpTo wad levels levels 0 a a
+pub begun_up_to : (wad : List ℕ) (levels : List RebuiltLevel) (a : BoundedWad) → IsWithin a → IsPutUpTo wad levels levels 0 a a
 begun_up_to wad levels a t = record { done = []; are = add_none a t; whole = refl }
 
 from_step :
@@ -126,7 +126,7 @@ drop_at_level (l ∷ levels) zero x h e = rw e refl
 drop_at_level (l ∷ levels) (suc n) x h e = let s : suc n + 1 ≡ suc (n + 1) = omega arith in rw s (drop_at_level levels n x (omega arith) e)
 
 pub up_to_next :
-    (wad : List ℕ) (levels : List RebuiltLevel) (n k : ℕ) (x : RebuiltLevel) (a b c : Draft) → n < length levels → get_or levels n x ≡ x
+    (wad : List ℕ) (levels : List RebuiltLevel) (n k : ℕ) (x : RebuiltLevel) (a b c : BoundedWad) → n < length levels → get_or levels n x ≡ x
     → IsPutUpTo wad levels (drop n levels) k a b → AddsLumps b c (lumps_up_to wad k x) → IsPutUpTo wad levels (drop (n + 1) levels) x.entries.gl_end a c
 up_to_next wad levels n k x a b c h e i p =
     record {
@@ -136,7 +136,7 @@ up_to_next wad levels n k x a b c h e i p =
     }
 
 pub up_to_refuses :
-    (wad : List ℕ) (levels : List RebuiltLevel) (n k : ℕ) (x : RebuiltLevel) (a b : Draft) (f : RebuildError) → n < length levels → get_or levels n x ≡ x
+    (wad : List ℕ) (levels : List RebuiltLevel) (n k : ℕ) (x : RebuiltLevel) (a b : BoundedWad) (f : RebuildError) → n < length levels → get_or levels n x ≡ x
     → IsPutUpTo wad levels (drop n levels) k a b → RefusesPut b (lumps_up_to wad k x) f → RefusesPut a (lumps_from wad 0 levels) f
 up_to_refuses wad levels n k x a b f h e i r =
     let w = from_step wad levels (drop n levels) (drop (n + 1) levels) k x i.done (drop_at_level levels n x h e) i.whole in
@@ -150,18 +150,18 @@ drop_none (l ∷ levels) zero h = absurd (omega arith)
 drop_none (l ∷ levels) (suc n) h = drop_none levels n (omega arith)
 
 end_whole :
-    (wad : List ℕ) (levels : List RebuiltLevel) (n k : ℕ) (a b : Draft) (i : IsPutUpTo wad levels (drop n levels) k a b) → length levels ≤ n
+    (wad : List ℕ) (levels : List RebuiltLevel) (n k : ℕ) (a b : BoundedWad) (i : IsPutUpTo wad levels (drop n levels) k a b) → length levels ≤ n
     → lumps_from wad 0 levels ≡ i.done ++ lumps_between wad k (lump_count wad)
 end_whole wad levels n k a b i h = i.whole ∙ ap (λ (ls : List RebuiltLevel). i.done ++ lumps_from wad k ls) (drop_none levels n h)
 
 pub up_to_end :
-    (wad : List ℕ) (levels : List RebuiltLevel) (n k : ℕ) (a b c : Draft) → length levels ≤ n → IsPutUpTo wad levels (drop n levels) k a b
+    (wad : List ℕ) (levels : List RebuiltLevel) (n k : ℕ) (a b c : BoundedWad) → length levels ≤ n → IsPutUpTo wad levels (drop n levels) k a b
     → AddsLumps b c (lumps_between wad k (lump_count wad)) → AddsLumps a c (lumps_from wad 0 levels)
 up_to_end wad levels n k a b c h i p =
     subst (λ (l : List Lump). AddsLumps a c l) (sym (end_whole wad levels n k a b i h)) (add_both a b c i.done (lumps_between wad k (lump_count wad)) i.are p)
 
 pub end_refuses :
-    (wad : List ℕ) (levels : List RebuiltLevel) (n k : ℕ) (a b : Draft) (f : RebuildError) → length levels ≤ n → IsPutUpTo wad levels (drop n levels) k a b
+    (wad : List ℕ) (levels : List RebuiltLevel) (n k : ℕ) (a b : BoundedWad) (f : RebuildError) → length levels ≤ n → IsPutUpTo wad levels (drop n levels) k a b
     → RefusesPut b (lumps_between wad k (lump_count wad)) f → RefusesPut a (lumps_from wad 0 levels) f
 end_refuses wad levels n k a b f h i r =
     subst (λ (l : List Lump). RefusesPut a l f) (sym (end_whole wad levels n k a b i h)) (refuse_behind a b i.done (lumps_between wad k (lump_count wad)) f i.are r)

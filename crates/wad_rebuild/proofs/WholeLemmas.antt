@@ -13,12 +13,13 @@ use Rattle.wad_file.proofs.NameLemmas.{any_map}
 use Rattle.wad_levels.specs.Called.{is_asked_of, is_level_asked, last_of_each}
 use Rattle.wad_levels.specs.Entries.{AreLevels, IsLevelAt}
 use Rattle.wad_levels.specs.declared.entries.LevelEntries.{LevelEntries}
-use Rattle.wad_rebuild.specs.Parts.{AddsLumps, RefusesPut}
-use Rattle.wad_rebuild.specs.Rebuilt.{AreRebuilt, IsFate, IsRebuilt, RefusesRebuild, has_level, lumps_refusal, whole_refusal}
-use Rattle.wad_rebuild.specs.Whole.{RefusesFinding, RefusesBytes}
+use Rattle.wad_rebuild.specs.Parts.{AddsLumps, IsWithin, RefusesPut}
+use Rattle.wad_rebuild.specs.Rebuilt.{AreRebuilt, IsFate, IsRebuilt, RefusesRebuild, greatest_size, has_level, lumps_refusal, whole_refusal}
+use Rattle.wad_rebuild.specs.Whole.{IsShortWad, RefusesFinding, RefusesBytes}
 use Rattle.wad_rebuild.specs.declared.error.RebuildError.{RebuildError}
 use Rattle.wad_rebuild.specs.declared.error.RebuildError.TheVariants.{TooLong, NotAWad, DirectoryOutside, NoSuchLevel, LumpOutside, OutOfMemory}
 use Rattle.wad_rebuild.specs.declared.levels.RebuiltLevel.{RebuiltLevel}
+use Rattle.wad_rebuild.specs.declared.parts.BoundedWad.{BoundedWad}
 
 -- ---- lists
 pub any_here : {X : Type 0} (p : X → Bool) (xs : List X) (i : ℕ) (d : X) → i < length xs → p (get_or xs i d) ≡ true → list_any p (drop i xs) ≡ true
@@ -67,24 +68,6 @@ level_of_name wad name levels a =
 -- of a WAD the first refusal is that of its lumps
 pub of_wad : (wad : List ℕ) (names : List (List ℕ)) → wad_refusal wad ≡ None → whole_refusal wad names ≡ lumps_refusal wad names
 of_wad wad names w = rw w refl
-
--- ---- what is written
-
--- the writer has no lump
-pub begun_takes : (a : Draft) → a ≡ no_lumps → Takes a []
-begun_takes a e = let n = ap (λ (d : Draft). wad_size d.lumps) e in record { ready = ap (λ (d : Draft). d.begun) e; fits = omega (arith, n) }
-
-pub finished : (out kind : List ℕ) (a b : Draft) (lumps : List Lump) → a ≡ no_lumps → AddsLumps a b lumps → IsWadOf kind b.lumps out → IsWadOf kind lumps out
-finished out kind a b lumps e p w =
-    subst (λ (ls : List Lump). IsWadOf kind ls out) (p.puts.lumps_are ∙ ap (λ (d : Draft). d.lumps ++ lumps) e) w
-
-pub not_written : (a : Draft) (lumps : List Lump) (e : RebuildError) → a ≡ no_lumps → RefusesPut a lumps e → RefusesBytes lumps e
-not_written a lumps TooLong b r = let n = ap (λ (d : Draft). wad_size d.lumps) b in omega (arith, n, r)
-not_written a lumps NotAWad b r = r
-not_written a lumps DirectoryOutside b r = r
-not_written a lumps NoSuchLevel b r = r
-not_written a lumps LumpOutside b r = r
-not_written a lumps OutOfMemory b r = tt
 
 -- ---- the whole
 pub not_found : (wad : List ℕ) (names : List (List ℕ)) (e : RebuildError) → wad_refusal wad ≡ None → RefusesFinding wad names e → RefusesRebuild wad names e

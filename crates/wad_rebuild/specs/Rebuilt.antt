@@ -1,5 +1,5 @@
 -- A WAD whose levels are built anew of their own lines, its other lumps as they were (docs/FORMAT.md, "Levels of other WADs").
-use Rattle.std.specs.Prelude.{◌≡◌, ◌≢◌, ◌⊎◌, ℕ, zero, suc, ◌+◌, ◌-◌, ◌/◌, ◌≤◌, Bool, true, false, not, nat_lt, List, [], ◌∷◌, ◌++◌, length, map, filter, take, All, Option, Some, None}
+use Rattle.std.specs.Prelude.{◌≡◌, ◌≢◌, ◌⊎◌, ℕ, zero, suc, ◌+◌, ◌*◌, ◌-◌, ◌/◌, ◌<◌, ◌≤◌, max, min, Bool, true, false, not, nat_lt, List, [], ◌∷◌, ◌++◌, length, map, filter, take, All, Option, Some, None}
 use Rattle.std.specs.Option.{option_map, option_or}
 use Rattle.std.specs.List.{list_all, list_any, range_with_len}
 use Rattle.wad_levels.specs.Called.{is_level_asked}
@@ -126,12 +126,17 @@ abbrev pub whole_refusal : List ℕ → List (List ℕ) → Option RebuildError
 whole_refusal wad names =
     option_or (option_map not_rebuilt (wad_refusal wad)) (lumps_refusal wad names)
 
--- nothing refuses the WAD, but with its levels built anew it would have four gigabytes
+-- how many bytes a WAD may have with its levels built anew: sixteen times as many as it has, but
+-- always 64 MB, and never four gigabytes
+abbrev pub greatest_size : List ℕ → ℕ
+greatest_size wad = min (max (16 * length wad) 67108864) 4294967295
+
+-- nothing refuses the WAD, but with its levels built anew it would have more bytes than it may have
 pub record Outgrows (wad : List ℕ) (names : List (List ℕ)) : Type 0 where
   pub accepted : whole_refusal wad names ≡ None
   pub levels : List RebuiltLevel
   pub are : AreRebuilt wad names levels
-  pub long : 4294967296 ≤ wad_size (rebuilt_lumps wad levels)
+  pub long : greatest_size wad < wad_size (rebuilt_lumps wad levels)
 
 -- that refusal, or the new WAD would be too long, or lack of memory
 abbrev pub RefusesRebuild : List ℕ → List (List ℕ) → RebuildError → Type 0
@@ -144,3 +149,4 @@ pub record IsRebuiltWad (wad : List ℕ) (names : List (List ℕ)) (r : RebuiltW
   pub accepted : whole_refusal wad names ≡ None
   pub levels_are : AreRebuilt wad names r.levels.items
   pub bytes_are : IsWadOf (take 4 wad) (rebuilt_lumps wad r.levels.items) r.bytes.items
+  pub fits : wad_size (rebuilt_lumps wad r.levels.items) ≤ greatest_size wad

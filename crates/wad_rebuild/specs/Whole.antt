@@ -1,8 +1,8 @@
 -- What is found of a WAD before its levels are built anew, and why it isn't written after.
-use Rattle.std.specs.Prelude.{◌≡◌, ℕ, ◌≤◌, List, Some, None}
+use Rattle.std.specs.Prelude.{◌≡◌, ℕ, ◌<◌, ◌≤◌, List, Some, None}
 use Rattle.wad_levels.specs.Entries.{AreLevels}
 use Rattle.wad_levels.specs.declared.entries.LevelEntries.{LevelEntries}
-use Rattle.wad_file.specs.Lumps.{Lump, wad_size}
+use Rattle.wad_file.specs.Lumps.{IsWadOf, Lump, wad_size}
 use Rattle.wad_rebuild.specs.Parts.{HasLumps}
 use Rattle.wad_rebuild.specs.Rebuilt.{lumps_refusal}
 use Rattle.wad_rebuild.specs.declared.error.RebuildError.{RebuildError}
@@ -20,11 +20,16 @@ abbrev pub RefusesFinding : List ℕ → List (List ℕ) → RebuildError → Ty
 RefusesFinding wad names OutOfMemory = Unit {0}
 RefusesFinding wad names e = lumps_refusal wad names ≡ Some e
 
--- the lumps are too long for a WAD, or there is no memory
-abbrev pub RefusesBytes : List Lump → RebuildError → Type 0
-RefusesBytes lumps TooLong = 4294967296 ≤ wad_size lumps
-RefusesBytes lumps OutOfMemory = Unit {0}
-RefusesBytes lumps NotAWad = ⊥
-RefusesBytes lumps DirectoryOutside = ⊥
-RefusesBytes lumps NoSuchLevel = ⊥
-RefusesBytes lumps LumpOutside = ⊥
+-- the lumps take more bytes than they may, or there is no memory
+abbrev pub RefusesBytes : ℕ → List Lump → RebuildError → Type 0
+RefusesBytes most lumps TooLong = most < wad_size lumps
+RefusesBytes most lumps OutOfMemory = Unit {0}
+RefusesBytes most lumps NotAWad = ⊥
+RefusesBytes most lumps DirectoryOutside = ⊥
+RefusesBytes most lumps NoSuchLevel = ⊥
+RefusesBytes most lumps LumpOutside = ⊥
+
+-- the bytes are a WAD of a kind with these lumps, and at most so many
+pub record IsShortWad (kind : List ℕ) (most : ℕ) (lumps : List Lump) (wad : List ℕ) : Type 0 where
+  pub wad_is : IsWadOf kind lumps wad
+  pub fits : wad_size lumps ≤ most

@@ -2,9 +2,8 @@
 ghost use Rattle.std.specs.Prelude.{◌≡◌, ◌<◌, ◌≤◌, [], ◌∷◌, All, MatchResult, get_or};
 ghost use Rattle.wad_levels.specs.Entries.{IsLevelAt};
 ghost use Rattle.wad_file.specs.Directory.{lump, lump_count};
-ghost use Rattle.wad_file.specs.Drafts.{Takes};
 ghost use Rattle.wad_file.specs.Lumps.{lump_at, lumps_between};
-ghost use Rattle.wad_rebuild.specs.Parts.{AddsLumps, HasLumps, RefusesPut, lumps_up_to};
+ghost use Rattle.wad_rebuild.specs.Parts.{AddsLumps, HasLumps, IsWithin, RefusesPut, lumps_up_to};
 ghost use Rattle.wad_rebuild.specs.Rebuilt.{lumps_after, made_lumps, rebuilt_lumps, ten_bytes, ten_lumps};
 
 use crate::error::RebuildError;
@@ -14,17 +13,24 @@ use lump_records::Name8;
 use wad_file::{Wad, WadWriter};
 use wad_levels::{LUMP_NAMES, LevelEntries, level_lump};
 
+/// A WAD that is written lump by lump, and may have `most` bytes.
+#[derive(Drop)]
+pub struct BoundedWad {
+    pub wad: WadWriter,
+    pub most: u64,
+}
+
 // Appends a lump.
-fn put_lump(to: &mut WadWriter, name: Name8, bytes: &[u8]) -> Result<(), RebuildError>
-    requires { Takes to.old [] }
+fn put_lump(to: &mut BoundedWad, name: Name8, bytes: &[u8]) -> Result<(), RebuildError>
+    requires { IsWithin to.old }
     ensures { MatchResult result
         (λ _. AddsLumps to.old to.new (record { name = name; bytes = bytes.now } ∷ []))
         (RefusesPut to.old (record { name = name; bytes = bytes.now } ∷ [])) }
 {
-    if !to.has_room(bytes.len()) {
+    if !to.wad.has_room(bytes.len(), to.most) {
         return Err(RebuildError::TooLong);
     }
-    match to.push(name, bytes) {
+    match to.wad.push(name, bytes) {
         Ok(()) => Ok(()),
         Err(_) => Err(RebuildError::OutOfMemory),
     }
@@ -40,10 +46,10 @@ fn lump_of<'a>(wad: &Wad<'a>, k: u32) -> &'a [u8]
 }
 
 // Appends the lump of the k-th entry.
-fn put_kept(wad: &Wad<'_>, k: u32, to: &mut WadWriter) -> Result<(), RebuildError>
+fn put_kept(wad: &Wad<'_>, k: u32, to: &mut BoundedWad) -> Result<(), RebuildError>
     requires wad { HasLumps wad.now }
     requires among { k < lump_count wad.now }
-    requires fits { Takes to.old [] }
+    requires fits { IsWithin to.old }
     ensures { MatchResult result
         (λ _. AddsLumps to.old to.new (lump_at wad.now k ∷ []))
         (RefusesPut to.old (lump_at wad.now k ∷ [])) }
@@ -52,10 +58,10 @@ fn put_kept(wad: &Wad<'_>, k: u32, to: &mut WadWriter) -> Result<(), RebuildErro
 }
 
 // Appends the lumps of the entries from `from` up to `end`, which isn't among them.
-fn put_between(wad: &Wad<'_>, from: u32, end: u32, to: &mut WadWriter) -> Result<(), RebuildError>
+fn put_between(wad: &Wad<'_>, from: u32, end: u32, to: &mut BoundedWad) -> Result<(), RebuildError>
     requires wad { HasLumps wad.now }
     requires among { end ≤ lump_count wad.now }
-    requires fits { Takes to.old [] }
+    requires fits { IsWithin to.old }
     ensures { MatchResult result
         (λ _. AddsLumps to.old to.new (lumps_between wad.now from end))
         (RefusesPut to.old (lumps_between wad.now from end)) }
@@ -91,11 +97,11 @@ fn put_ten(
     wad: &Wad<'_>,
     level: LevelEntries,
     made: &MadeLumps,
-    to: &mut WadWriter,
+    to: &mut BoundedWad,
 ) -> Result<(), RebuildError>
     requires wad { HasLumps wad.now }
     requires level { IsLevelAt wad.now level }
-    requires fits { Takes to.old [] }
+    requires fits { IsWithin to.old }
     ensures { MatchResult result
         (λ _. AddsLumps to.old to.new (ten_lumps wad.now level made.now))
         (RefusesPut to.old (ten_lumps wad.now level made.now)) }
@@ -114,11 +120,11 @@ fn put_made(
     wad: &Wad<'_>,
     level: LevelEntries,
     made: &MadeLumps,
-    to: &mut WadWriter,
+    to: &mut BoundedWad,
 ) -> Result<(), RebuildError>
     requires wad { HasLumps wad.now }
     requires level { IsLevelAt wad.now level }
-    requires fits { Takes to.old [] }
+    requires fits { IsWithin to.old }
     ensures { MatchResult result
         (λ _. AddsLumps to.old to.new (made_lumps wad.now level made.now))
         (RefusesPut to.old (made_lumps wad.now level made.now)) }
@@ -134,10 +140,10 @@ fn put_made(
 }
 
 // Appends a level's lumps: the new ones if it is built anew, otherwise the old ones.
-fn put_level(wad: &Wad<'_>, level: &RebuiltLevel, to: &mut WadWriter) -> Result<(), RebuildError>
+fn put_level(wad: &Wad<'_>, level: &RebuiltLevel, to: &mut BoundedWad) -> Result<(), RebuildError>
     requires wad { HasLumps wad.now }
     requires level { IsLevelAt wad.now level.now.entries }
-    requires fits { Takes to.old [] }
+    requires fits { IsWithin to.old }
     ensures { MatchResult result
         (λ _. AddsLumps to.old to.new (lumps_after wad.now level.now.entries level.now.fate))
         (RefusesPut to.old (lumps_after wad.now level.now.entries level.now.fate)) }
@@ -154,11 +160,11 @@ fn put_up_to(
     wad: &Wad<'_>,
     k: u32,
     level: &RebuiltLevel,
-    to: &mut WadWriter,
+    to: &mut BoundedWad,
 ) -> Result<(), RebuildError>
     requires wad { HasLumps wad.now }
     requires level { IsLevelAt wad.now level.now.entries }
-    requires fits { Takes to.old [] }
+    requires fits { IsWithin to.old }
     ensures { MatchResult result
         (λ _. AddsLumps to.old to.new (lumps_up_to wad.now k level.now))
         (RefusesPut to.old (lumps_up_to wad.now k level.now)) }
@@ -177,11 +183,11 @@ fn put_up_to(
 pub fn put_rebuilt(
     wad: &Wad<'_>,
     levels: &[RebuiltLevel],
-    to: &mut WadWriter,
+    to: &mut BoundedWad,
 ) -> Result<(), RebuildError>
     requires wad { HasLumps wad.now }
     requires levels { All (λ l. IsLevelAt wad.now l.entries) levels.now }
-    requires fits { Takes to.old [] }
+    requires fits { IsWithin to.old }
     ensures { MatchResult result
         (λ _. AddsLumps to.old to.new (rebuilt_lumps wad.now levels.now))
         (RefusesPut to.old (rebuilt_lumps wad.now levels.now)) }

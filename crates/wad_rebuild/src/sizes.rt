@@ -1,9 +1,13 @@
-//! How long all lumps of a WAD are together.
+//! How long all lumps of a WAD are together, and how long it may be with its levels built anew.
 ghost use Rattle.std.specs.Prelude.{◌≡◌};
 ghost use Rattle.wad_file.specs.Directory.{lump_count};
-ghost use Rattle.wad_rebuild.specs.Rebuilt.{is_crowded, sizes_below};
+ghost use Rattle.wad_rebuild.specs.Rebuilt.{greatest_size, is_crowded, sizes_below};
 
 use wad_file::Wad;
+
+// Every WAD may have this many bytes with its levels built anew, and none more than `MOST`.
+const ALWAYS: u64 = 0x400_0000;
+const MOST: u64 = 0xffff_ffff;
 
 // How many bytes the lumps have together.
 fn all_sizes(wad: &Wad<'_>) -> u64
@@ -22,4 +26,18 @@ pub fn is_crowded(wad: &Wad<'_>) -> bool
     ensures { result ≡ is_crowded wad.now }
 {
     all_sizes(wad) / 4 > wad.bytes().len() as u64
+}
+
+/// How many bytes a WAD may have with its levels built anew.
+pub fn greatest_size(wad: &Wad<'_>) -> u64
+    ensures { result ≡ greatest_size wad.now }
+{
+    let len = wad.bytes().len() as u64;
+    if len <= ALWAYS / 16 {
+        ALWAYS
+    } else if len <= MOST / 16 {
+        16 * len
+    } else {
+        MOST
+    }
 }

@@ -2,14 +2,13 @@
 ghost use Rattle.std.specs.Prelude.{◌≡◌, IfErr, IfOk, MatchResult, map, take, string_bytes, All};
 ghost use Rattle.wad_levels.specs.Entries.{AreLevels, IsLevelAt};
 ghost use Rattle.wad_rebuild.specs.Parts.{HasLumps};
-ghost use Rattle.wad_rebuild.specs.Rebuilt.{IsRebuiltWad, RefusesRebuild, rebuilt_lumps};
-ghost use Rattle.wad_file.specs.Lumps.{IsWadOf};
-ghost use Rattle.wad_rebuild.specs.Whole.{IsAcceptedWad, RefusesFinding, RefusesBytes};
+ghost use Rattle.wad_rebuild.specs.Rebuilt.{IsRebuiltWad, RefusesRebuild, greatest_size, rebuilt_lumps};
+ghost use Rattle.wad_rebuild.specs.Whole.{IsAcceptedWad, IsShortWad, RefusesFinding, RefusesBytes};
 
 use crate::error::RebuildError;
 use crate::levels::{Fate, RebuiltLevel, have_levels, rebuilt_levels};
-use crate::parts::put_rebuilt;
-use crate::sizes::is_crowded;
+use crate::parts::{BoundedWad, put_rebuilt};
+use crate::sizes::{greatest_size, is_crowded};
 use std::alloc::Global;
 use wad_file::{Wad, WadError, WadWriter};
 use wad_levels::{LevelEntries, levels_in};
@@ -63,14 +62,14 @@ fn made_size(fate: &Fate) -> usize {
     }
 }
 
-// Room for the file and what was made, so that the buffer seldom grows.
-fn room_for(wad: &Wad<'_>, levels: &[RebuiltLevel]) -> usize {
+// Room for the file and what was made, so that the buffer seldom grows; at most `most`.
+fn room_for(wad: &Wad<'_>, levels: &[RebuiltLevel], most: u64) -> usize {
     let mut room = wad.bytes().len();
     for n in 0..levels.len() {
         let level = &levels[n];
         room = room.saturating_add(made_size(&level.fate));
     }
-    room
+    room.min(most as usize)
 }
 
 // The bytes of the new WAD.
@@ -78,18 +77,22 @@ fn written(alloc: Global, wad: &Wad<'_>, levels: &[RebuiltLevel]) -> Result<Vec<
     requires wad { HasLumps wad.now }
     requires levels { All (λ l. IsLevelAt wad.now l.entries) levels.now }
     ensures { MatchResult result
-        (λ v. IsWadOf (take 4 wad.now) (rebuilt_lumps wad.now levels.now) v.items)
-        (RefusesBytes (rebuilt_lumps wad.now levels.now)) }
+        (λ v. IsShortWad (take 4 wad.now) (greatest_size wad.now) (rebuilt_lumps wad.now levels.now)
+        v.items)
+        (RefusesBytes (greatest_size wad.now) (rebuilt_lumps wad.now levels.now)) }
 {
-    let mut to = match WadWriter::begin(alloc, room_for(wad, levels), wad.count() as usize) {
-        Ok(to) => to,
+    let most = greatest_size(wad);
+    let begun = WadWriter::begin(alloc, room_for(wad, levels, most), wad.count() as usize);
+    let mut to = match begun {
+        Ok(wad) => BoundedWad { wad, most },
         Err(_) => return Err(RebuildError::OutOfMemory),
     };
     match put_rebuilt(wad, levels, &mut to) {
         Ok(()) => {}
         Err(error) => return Err(error),
     }
-    match to.finish(alloc, wad.kind()) {
+    let BoundedWad { wad: whole, .. } = to;
+    match whole.finish(alloc, wad.kind()) {
         Ok(bytes) => Ok(bytes),
         Err(_) => Err(RebuildError::OutOfMemory),
     }
@@ -123,7 +126,8 @@ fn rebuilt(alloc: Global, wad: &Wad<'_>, names: &[String]) -> Result<RebuiltWad,
 ///
 /// The first that holds of `NotAWad`, `DirectoryOutside`, `LumpOutside` (of any lump that isn't empty), `TooLong` (the
 /// lumps overlap, and together are more than four times as long as the file), `NoSuchLevel` (no level has a name). Then
-/// `TooLong` if the new WAD would have four gigabytes; or `OutOfMemory`.
+/// `TooLong` if the new WAD would have more than 64 MB and more than sixteen times the bytes of this one, or four
+/// gigabytes; or `OutOfMemory`.
 pub fn rebuild_wad(
     alloc: Global,
     bytes: &[u8],
