@@ -5,7 +5,7 @@ ghost use Rattle.cli_refusals.specs.Refusals.{EndsReading};
 ghost use Rattle.cli_print.specs.Reading.{IsTooLongAfter, no_script, no_wad};
 
 use cli_files::{Cause, Content, content_within};
-use run_edit::EditorError;
+use run_edit::{EditorError, read_retrying};
 use std::alloc::Global;
 use std::io::Read;
 
@@ -87,7 +87,7 @@ fn read_whole<R: Read>(
         if is_surplus(read_for, turns, &bytes, why) {
             return Err(EditorError::InputTooLong);
         }
-        let count = match reader.read(&mut buffer) {
+        let count = match read_retrying(reader, &mut buffer) {
             Ok(count) => count,
             Err(error) => {
                 *why = Some(Cause::System(error));

@@ -22,6 +22,7 @@ mod project_run;
 mod query;
 mod reading;
 mod recovery;
+mod retrying;
 mod session;
 
 pub use answers::write_answer;
@@ -36,4 +37,5 @@ pub use lump::{BuiltLump, Lump};
 pub use project_run::run;
 pub use query::{Query, read_query};
 pub use recovery::{Recovery, build_after_any_stop, sessions_hold_runs};
+pub use retrying::read_retrying;
 pub use wad_build::BuildCounts as Counts;

@@ -7,6 +7,7 @@ ghost use Rattle.run_edit.specs.Runs.{Exchange, Feeds, Ran, TakesLines, none_wai
 
 use crate::error::EditorError;
 use crate::input_line::InputLine;
+use crate::retrying::read_retrying;
 use crate::session::Session;
 use std::alloc::Global;
 use std::io::{Read, Write};
@@ -185,7 +186,7 @@ pub fn run_lines<S: Session, R: Read, W: Write>(
     let mut answered: u64 = 0;
     let mut buffer = [0; 4096];
     for _ in 0..turns {
-        let count = match reader.read(&mut buffer) {
+        let count = match read_retrying(reader, &mut buffer) {
             Ok(count) => count,
             Err(_) => return Err(EditorError::ReaderFailed),
         };

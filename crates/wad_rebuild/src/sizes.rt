@@ -7,6 +7,7 @@ use wad_file::Wad;
 
 // Every WAD may have this many bytes with its levels built anew, and none more than `MOST`.
 const ALWAYS: u64 = 0x400_0000;
+
 const MOST: u64 = 0xffff_ffff;
 
 // How many bytes the lumps have together.

@@ -9,7 +9,7 @@ pub loop-preserved : goal.loop-preserved
 loop-preserved g c =
     let read = c.loop.invariant.0 in
     let i = c.loop.invariant.1 in
-    let more = take c.in-Ok.count c.read.new.buf in
+    let more = take c.in-Ok.count c.read_retrying.new.buffer in
     let size : length more ≡ c.in-Ok.count = grind (arith, common_steps) in
     let short : length more ≤ 4096 = grind (arith, common_steps) in (
       read ++ more,
@@ -31,7 +31,7 @@ returns-in-Err-take_turn g c =
     let i = c.loop.invariant.1 in
     let first = c.args.session.now in
     let last = c.take_turn.new.session in
-    let more = take c.in-Ok.count c.read.new.buf in
+    let more = take c.in-Ok.count c.read_retrying.new.buffer in
     let short : length more ≤ 4096 = grind (arith, common_steps) in
     let u = g.W.Write.contents c.args.writer.now in
     let w = g.W.Write.contents c.take_turn.new.writer in
@@ -57,7 +57,7 @@ returns-in-Ok-finish g c =
     let b : c.in-Ok-finish.last ≡ length (line_if_any (unfinished read)) = ended.1 in
     let count : c.loop.answered + c.in-Ok-finish.last ≡ length (lines_of read) = omega (arith, length-append (whole_lines read) (line_if_any (unfinished read))) in
     Ran-ok g.S.Session.goes g.met.S.Session.then_more _ c.args.turns first last read _ _ u w
-    (Consumes-end _ _ _ read c.read.new.buf c.in-Ok.count c.if-count-eq0.true i.took c.in-Ok.ensures.bytes.0) few
+    (Consumes-end _ _ _ read c.read_retrying.new.buffer c.in-Ok.count c.if-count-eq0.true i.took c.in-Ok.ensures.bytes.0) few
     (c.in-Ok.ensures.bytes.1 c.if-count-eq0.true (grind (arith, common_steps))) count
     (both g.S.Session.goes g.met.S.Session.then_more none_waits none_waits c.loop.answered (Ok (c.loop.answered + c.in-Ok-finish.last)) first c.loop.session last (whole_lines read) (line_if_any (unfinished read)) u
     (g.W.Write.contents c.loop.writer) w i.fed.ends (λ left none. rw none ended.0))
@@ -73,6 +73,6 @@ returns-in-Err-finish g c =
     let error = c.in-Err-finish.error in
     let few : length read ≤ 4096 * c.args.turns = omega (arith, i.short, c.loop-test.true) in
     Ran-lost g.S.Session.goes g.met.S.Session.then_more error c.args.turns first last read _ _ u w
-    (Consumes-end _ _ _ read c.read.new.buf c.in-Ok.count c.if-count-eq0.true i.took c.in-Ok.ensures.bytes.0) few
+    (Consumes-end _ _ _ read c.read_retrying.new.buffer c.in-Ok.count c.if-count-eq0.true i.took c.in-Ok.ensures.bytes.0) few
     (both g.S.Session.goes g.met.S.Session.then_more {V = ℕ} none_waits none_waits c.loop.answered (Err error) first c.loop.session last (whole_lines read) (line_if_any (unfinished read))
     u (g.W.Write.contents c.loop.writer) w i.fed.ends (λ left none. rw none (c.in-Err-finish.ensures (unfinished read) i.fed.begun).0))
