@@ -2,21 +2,30 @@
 
 use std::io::{self, Read, Write};
 
-/// A reader that returns its bytes one at a time, and then fails or is at its end.
+/// A reader that returns its bytes one at a time, and then fails or is at its end. Every other read is interrupted.
 #[derive(Drop)]
 pub struct Drip<'a> {
     pub left: &'a [u8],
     pub fails: bool,
+    is_interrupted: bool,
 }
 
 impl<'a> Drip<'a> {
     pub fn of(left: &'a [u8], fails: bool) -> Drip<'a> {
-        Drip { left, fails }
+        Drip {
+            left,
+            fails,
+            is_interrupted: false,
+        }
     }
 }
 
 impl Read for Drip<'_> {
     fn read(&mut self, buf: &mut [u8]) -> io::Result<usize> {
+        self.is_interrupted = !self.is_interrupted;
+        if self.is_interrupted {
+            return Err(io::Error::from(io::ErrorKind::Interrupted));
+        }
         let left = self.left;
         match left {
             [] => {
