@@ -16,6 +16,7 @@ use Rattle.cli_refusals.specs.declared.refusal.Refusal.{Refusal}
 use Rattle.cli_program.specs.Deeds.{IsPerformed}
 use Rattle.cli_program.specs.Kinds.{IsQuiet}
 use Rattle.cli_program.specs.Notes.{HasToldNotes}
+use Rattle.leveled.specs.Finding.{AreFound}
 use Rattle.store_disk.specs.declared.disk.Disk.{Ghosts}
 
 -- the words are for this request
@@ -49,11 +50,13 @@ IsRequestDone disk request status input-old input-new output-old output-new erro
     × (IsQuiet request status → Keeps errors-old errors-new)
     × HasToldNotes request status output-old output-new errors-old errors-new
 
--- the words are a request, which was done so; or they are none, and the status says so
+-- the words are a request, which was done so, with the paths at which its WADs are found; or they
+-- are none, and the status says so
 abbrev pub IsAnswered : {D : Type 0} → Ghosts D → List Text → ℕ → Option (List ℕ) → Option (List ℕ)
     → Option (List ℕ) → Option (List ℕ) → Option (List ℕ) → Option (List ℕ) → Type 0
 IsAnswered disk words status input-old input-new output-old output-new errors-old errors-new =
-    ((request : Request) × Asks words request
+    ((asked : Request) × Asks words asked
+    × (request : Request) × AreFound asked request
     × IsRequestDone disk request status input-old input-new output-old output-new errors-old
     errors-new)
     ⊎ ((error : RequestError) × IsRefusal words error × EndsWords error status)

@@ -4,6 +4,9 @@
 ghost use Rattle.std.specs.Prelude.{◌≡◌, ◌≤◌, IsTrue, if◌then◌else◌, map};
 ghost use Rattle.leveled.specs.Answers.{AsksForHelp, EndsWords, IsAnswered};
 
+mod finding;
+
+use crate::finding::with_found;
 use clap::Error;
 use clap::error::ErrorKind;
 use cli_files::NotedFile;
@@ -173,7 +176,8 @@ fn answer<R: Read, W: Write, F: Write>(
         (F.contents faults.old) (F.contents faults.new) }
 {
     match request(rt.alloc(), words) {
-        Ok(request) => {
+        Ok(asked) => {
+            let request = with_found(rt, asked);
             greet(rt, &request);
             perform(rt, &request, reader, writer, faults)
         }
