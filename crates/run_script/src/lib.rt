@@ -13,12 +13,14 @@ mod error;
 mod forms;
 mod line;
 mod opening;
+mod particulars;
 mod project_canvas;
 mod reading;
 mod reasons;
 mod refused;
 mod shape_reasons;
 mod shaping;
+mod unfit;
 
 pub use canvas::Canvas;
 pub use draft::Draft;

@@ -1,7 +1,9 @@
 //! Says what was wrong with a refused line.
 use crate::calling::says;
 use crate::forms::{count_words, first_word, form_near, form_of, range_at};
+use crate::particulars::{in_use, too_long};
 use crate::shape_reasons::{decide, meant_shape, places_of};
+use crate::unfit::{form_meant, unfit};
 use lump_records::{Vertex, is_marker, is_name};
 use map_commands::{Command, ProjectCommand, RoomPlan, parse};
 use map_script::{
@@ -30,12 +32,15 @@ fn meant(alloc: Global, text: &str) -> Result<String, AllocError> {
         Some(form) => {
             let wanted = count_words(form);
             if wanted == count {
-                format!(in alloc; "a word hasn't the form of its place in: {form}")
+                match unfit(alloc, text, form)? {
+                    Some(told) => Ok(told),
+                    None => format!(in alloc; "a word hasn't the form of its place in: {form}"),
+                }
             } else {
                 format!(in alloc; "it has {count} words in place of {wanted}: {form}")
             }
         }
-        None => match form_near(first) {
+        None => match form_meant(first).or(form_near(first)) {
             Some(form) => format!(in alloc; "perhaps this is meant: {form}"),
             None => format!(in alloc; "no command and no query begins with {first}"),
         },
@@ -193,7 +198,9 @@ fn reason_of_text(alloc: Global, maps: &Maps, text: &str, code: u16) -> Result<S
         5 => counted(alloc, map, Kind::Side, "sides"),
         6 => counted(alloc, map, Kind::Line, "lines"),
         7 => counted(alloc, map, Kind::Thing, "things"),
+        8 => in_use(alloc, map, text),
         10 => taken(alloc, map, text),
+        13 => too_long(alloc, map, text),
         15 => bad_name(alloc, text, form),
         _ => says(alloc, code),
     }
