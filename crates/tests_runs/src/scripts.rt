@@ -111,7 +111,10 @@ fn draws_scripts(rt: HostRuntime) -> Result<(), Fail> {
 #[rattlefmt::skip]
 const REFUSED: &[(&[u8], &[u8])] = &[
     (b"split 2 256", b"1 NotACommand\n  it has 3 words in place of 4: split LINE X Y\n"),
-    (b"vertex 00 0", b"1 NotACommand\n  a word hasn't the form of its place in: vertex X Y\n"),
+    (b"vertex 00 0", b"1 NotACommand\n  00 stands for X, a whole number from -16384 to 16383\n"),
+    (b"thing 64.5 0 0 1 7", b"1 NotACommand\n  64.5 stands for X, a whole number from -16384 to 16383\n"),
+    (b"drop wall 0", b"1 NotACommand\n  wall stands for KIND: vertex, sector, side, line or thing\n"),
+    (b"linedef 0 1", b"1 NotACommand\n  perhaps this is meant: line V1 V2 FLAGS SPECIAL TAG RIGHT LEFT\n"),
     (b"frame = count", b"1 NotACommand\n  a query answers no number that a name could keep\n"),
     (b"corner 0 0", b"1 NotACommand\n  no command and no query begins with corner\n"),
     (b"thing 0 0 400 1 7", b"2 OutOfRange\n  400 stands for ANGLE, a number from 0 to 359\n"),
@@ -119,6 +122,11 @@ const REFUSED: &[(&[u8], &[u8])] = &[
         b"2 OutOfRange\n  X1 is to be less than X2, and Y1 less than Y2\n"),
     (b"line 0 9 1 0 0 0 -", b"3 NoVertex\n  vertices of the map: 6, numbered from 0\n"),
     (b"side 0 0 - - - 1", b"4 NoSector\n  sectors of the map: 1, numbered from 0\n"),
+    (b"drop vertex 1", b"8 InUse\n  line 0 begins at it\n"),
+    (b"drop side 3", b"8 InUse\n  line 3 has it as its right side\n"),
+    (b"drop sector 0", b"8 InUse\n  side 0 faces it\n"),
+    (b"vertex -16384 -16384\nvertex 16383 16383\nline 6 7 1 0 0 0 -",
+        b"13 LineTooLong\n  from -16384 -16384 to 16383 16383 it is 46339 long, and a line is 32767 at most\n"),
     (b"vertex $v 9\nvertex 9 9", b"10 PlaceTaken\n  vertex 5 stands at 9 9\n"),
     (b"room 16 0 40 12 0 128 FLOOR4_8 CEIL3_5 STARTAN3 160", b"10 PlaceTaken\n  vertex 1 stands at 16 0\n"),
     (b"name E0M1", b"15 BadName\n  E0M1 stands for a map's name: MAP01 to MAP99, or E1M1 to E9M9\n"),
