@@ -2,8 +2,9 @@
 use crate::calling::says;
 use lump_records::{LONGEST_SQUARED, Line, Vertex, squared_distance};
 use map_commands::{Command, ProjectCommand, parse};
-use map_tables::{Edit, Item, Kind, Map};
+use map_tables::{Edit, Item, Kind, Map, Maps};
 use std::alloc::{AllocError, Global};
+use std::str;
 
 // The command of a map that a line is.
 fn command_in(text: &str) -> Option<Command> {
@@ -132,4 +133,19 @@ pub fn too_long(alloc: Global, map: &Map, text: &str) -> Result<String, AllocErr
         }
         None => says(alloc, 13),
     }
+}
+
+/// Says which names the maps have.
+pub fn map_names(alloc: Global, maps: &Maps) -> Result<String, AllocError> {
+    let mut told = format!(in alloc; "the maps are")?;
+    for n in 0..maps.len() {
+        if let Some(map) = maps.at(n) {
+            let name = map.name();
+            if let Ok(name) = str::from_utf8(name.text()) {
+                told.push_str(" ")?;
+                told.push_str(name)?;
+            }
+        }
+    }
+    Ok(told)
 }

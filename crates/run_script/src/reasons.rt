@@ -1,7 +1,7 @@
 //! Says what was wrong with a refused line.
 use crate::calling::says;
 use crate::forms::{count_words, first_word, form_near, form_of, range_at};
-use crate::particulars::{in_use, too_long};
+use crate::particulars::{in_use, map_names, too_long};
 use crate::shape_reasons::{decide, meant_shape, places_of};
 use crate::unfit::{form_meant, unfit};
 use lump_records::{Vertex, is_marker, is_name};
@@ -202,6 +202,7 @@ fn reason_of_text(alloc: Global, maps: &Maps, text: &str, code: u16) -> Result<S
         10 => taken(alloc, map, text),
         13 => too_long(alloc, map, text),
         15 => bad_name(alloc, text, form),
+        18 => map_names(alloc, maps),
         _ => says(alloc, code),
     }
 }
