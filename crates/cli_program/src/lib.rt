@@ -7,6 +7,7 @@ mod dump_request;
 mod examining;
 mod lint_request;
 mod listing;
+mod names_beside;
 mod over_disk;
 mod over_file;
 mod over_script;

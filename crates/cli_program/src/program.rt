@@ -10,6 +10,7 @@ ghost use Rattle.cli_refusals.specs.declared.refusal.Refusal.{Refusal};
 
 use crate::examining::examine;
 use crate::listing::list_levels;
+use crate::names_beside::tell_names;
 use crate::over_file::{create_file, draw_file, edit_file, salvage_file};
 use crate::over_source::{build_file, check_file, dump_file, lint_file, picture_file};
 use crate::rebuild_request::rebuild;
@@ -18,12 +19,21 @@ use cli_files::{Hold, NotedFile};
 use cli_print::{Choice, TURNS, Wanted, layers_of};
 use cli_refusals::{Causes, Refusal, ended, report, report_causes, status_in};
 use cli_words::Request;
-use run_edit::run_in_memory;
+use run_edit::{InspectError, run_in_memory};
 use std::alloc::Global;
 use std::io::{Read, Write};
 use std::os::unix::fs::FileExt;
 use std::rt::Files;
 use store_disk::{Disk, FileDisk};
+use wad_levels::ReadError;
+
+// Whether a request is refused since its file has no map or no level of the name.
+fn lacks_name(refusal: &Refusal) -> bool {
+    matches!(
+        refusal,
+        Refusal::NoSuchMap | Refusal::Level(InspectError::Level(ReadError::NoSuchLevel))
+    )
+}
 
 // Answers the lines of the input over maps in memory.
 #[inline(never)]
@@ -234,7 +244,7 @@ where
 /// Does what a request asks for, with standard input, output and error passed in, and returns the status: 0 if it was
 /// done; 3 if maps have findings, a level has a fault or was left, or a line of a script was refused; 1 if the request
 /// was refused, with the reason in a line on `faults`, and one more if a file can't be opened, made, read, written or
-/// synced. `dump` and `rebuild` also report on `faults` about the levels of a WAD. The writer is flushed after each
+/// synced, or the names that there are if it has none of the name. `dump` and `rebuild` also report on `faults` about the levels of a WAD. The writer is flushed after each
 /// turn of reading.
 pub fn perform<E, R, W, F>(
     rt: &E,
@@ -269,6 +279,9 @@ where
     if let Err(refusal) = &how {
         let _ = report(refusal, faults);
         report_causes(rt.alloc(), request, &why, faults);
+        if lacks_name(refusal) {
+            tell_names(rt, request, faults);
+        }
     }
     status_in(&how)
 }
