@@ -77,7 +77,7 @@ const CALLS: &[Call] = &[
         1,
         b"",
         b"",
-        b"leveled: 72 NoSuchLevel\n",
+        b"leveled: 72 NoSuchLevel\n  there is MAP01 E1M1 E1M2\n",
     ),
     (
         &["leveled", "dump", "dumps_cut.wad"],
@@ -106,7 +106,7 @@ const CALLS: &[Call] = &[
         1,
         b"",
         b"",
-        b"leveled: 18 NoSuchMap\n",
+        b"leveled: 18 NoSuchMap\n  there is MAP01 E1M1\n",
     ),
 ];
 

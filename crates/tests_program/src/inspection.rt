@@ -170,7 +170,7 @@ const CALLS: &[Call] = &[
         b"",
         1,
         b"",
-        b"leveled: 72 NoSuchLevel\n",
+        b"leveled: 72 NoSuchLevel\n  there is MAP01\n",
     ),
     (
         &["leveled", "rebuild", "room.wad", "./room.lv"],
@@ -191,7 +191,7 @@ const CALLS: &[Call] = &[
         b"",
         1,
         b"",
-        b"leveled: 72 NoSuchLevel\n",
+        b"leveled: 72 NoSuchLevel\n  there is MAP01\n",
     ),
     (
         &["leveled", "inspect", "none.wad", "MAP01"],

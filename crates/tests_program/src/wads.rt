@@ -82,7 +82,7 @@ const CALLS: &[Call] = &[
         &["leveled", "lint", "levels.wad", "MAP07"],
         1,
         b"",
-        b"leveled: 72 NoSuchLevel\n",
+        b"leveled: 72 NoSuchLevel\n  there is MAP01 E1M1 E1M2 MAP01\n",
     ),
     (
         &["leveled", "lint", "cut.wad"],
@@ -118,7 +118,7 @@ const CALLS: &[Call] = &[
         &["leveled", "picture", "levels.wad", "MAP07"],
         1,
         b"",
-        b"leveled: 72 NoSuchLevel\n",
+        b"leveled: 72 NoSuchLevel\n  there is MAP01 E1M1 E1M2 MAP01\n",
     ),
     (
         &["leveled", "picture", "--nodes", "outside.wad"],
@@ -143,7 +143,7 @@ const CALLS: &[Call] = &[
         &["leveled", "lint", "levels.lv", "MAP02"],
         1,
         b"",
-        b"leveled: 18 NoSuchMap\n",
+        b"leveled: 18 NoSuchMap\n  there is MAP01\n",
     ),
 ];
 
