@@ -85,7 +85,7 @@ const ROWS: &[(&[&str], u8, &[u8], &[u8], &[u8])] = &[
         1,
         b"",
         b"",
-        b"leveled: 18 NoSuchMap\n",
+        b"leveled: 18 NoSuchMap\n  there is MAP01 E1M1\n",
     ),
     (&["pictures.lv", "--out", "pictures.svg"], 0, b"", b"", b""),
     (
