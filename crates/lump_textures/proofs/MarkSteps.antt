@@ -1,16 +1,12 @@
 -- Marks of columns, one more column or one more patch at a time.
-use Rattle.std.proofs.Common.{◌≡◌, ℕ, ◌+◌, ◌<◌, ◌≤◌, Bool, true, false, cond, eqb, refl, ◌||◌, ◌&&◌, List, length, get_or, set, take, sym, ap, ◌∙◌, arith}
-use Rattle.std.specs.Prelude.{nat_le, nat_lt}
-use Rattle.std.proofs.Common.{MatchBool, pos, ◌+ℤ◌}
-use Rattle.std.specs.Prelude.{int_le}
+use Rattle.std.proofs.Common.{◌≡◌, ℕ, ◌+◌, ◌<◌, ◌≤◌, Bool, true, false, cond, refl, ◌||◌, ◌&&◌, List, length, get_or, take, sym, ap, ◌∙◌, arith, MatchBool, pos, ◌+ℤ◌, zero-add}
+use Rattle.std.specs.Prelude.{nat_le, nat_lt, int_le}
 use Rattle.std.proofs.lemmas.Int.{ints}
 use Rattle.std.proofs.lemmas.Bool.Decides.{nat_tests}
 use Rattle.lump_textures.specs.declared.patch.Patch.{Patch}
 use Rattle.lump_textures.specs.Marks.{AreFree, HasMarked, IsFree, IsMarked, MarksColumns}
 use Rattle.lump_textures.specs.Patched.{patch_covers, is_patched, patches_over}
-use Rattle.std.proofs.Common.{zero-add}
-use Rattle.std.specs.Prelude.{count_by}
-use Rattle.std.specs.List.{list_any, range_with_len}
+use Rattle.std.specs.List.{range_with_len}
 use Rattle.std.proofs.lemmas.List.Elements.{All-from_get_or}
 use Rattle.std.proofs.lemmas.List.Folds.{list_any_at, list_any_none}
 use Rattle.std.proofs.lemmas.List.FromFn.{get_or-range_with_len, length-range_with_len}

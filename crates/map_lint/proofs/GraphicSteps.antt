@@ -1,16 +1,12 @@
 -- Names as a set of bytes, one name more at a time.
-use Rattle.std.proofs.Common.{◌≡◌, ◌∙◌, ℕ, ◌+◌, ◌<◌, Bool, true, false, cond, ◌||◌, List, length, get_or, take, refl, sym}
-use Rattle.std.specs.Prelude.{bytes_eq}
-use Rattle.std.specs.List.{list_any}
-use Rattle.std.proofs.lemmas.List.Folds.{list_any_more}
+use Rattle.std.proofs.Common.{◌≡◌, ◌∙◌, ℕ, ◌+◌, ◌<◌, Bool, true, false, cond, ◌||◌, List, length, get_or, take, refl, sym, ◌∷◌, ◌++◌, [], Option, None, Some, ap, drop, zero-add, append_assoc}
+use Rattle.std.specs.Prelude.{bytes_eq, filter_map, find}
+use Rattle.std.specs.List.{list_any, cons_option, range_with_len}
+use Rattle.std.proofs.lemmas.List.Folds.{list_any_more, find-append}
 use Rattle.lump_records.specs.declared.records.Name8.{Name8}
-use Rattle.std.proofs.Common.{◌∷◌, ◌++◌, [], Option, None, Some, ap, drop, zero-add, append_assoc}
-use Rattle.std.specs.Prelude.{filter_map, find}
-use Rattle.std.specs.List.{cons_option, range_with_len}
 use Rattle.std.specs.Option.{option_or, option_to_list}
 use Rattle.std.proofs.lemmas.List.{map-id, take-append-drop, take_more}
 use Rattle.std.proofs.lemmas.List.Elements.{filter_map-append}
-use Rattle.std.proofs.lemmas.List.Folds.{find-append}
 use Rattle.std.proofs.lemmas.List.FromFn.{map-range_with_len_more}
 
 cond_or : (b x : Bool) → cond b true x ≡ (x || b)

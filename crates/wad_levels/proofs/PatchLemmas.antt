@@ -1,5 +1,5 @@
 -- The entries of a directory by their names.
-use Rattle.std.proofs.Common.{◌≡◌, ◌∙◌, sym, ap, refl, cond, ℕ, zero, suc, Bool, true, false, List, Option, Some, None, ◌<◌, arith}
+use Rattle.std.proofs.Common.{◌≡◌, cond, ℕ, zero, suc, Bool, true, false, List, Some, ◌<◌, arith}
 use Rattle.std.specs.Prelude.{bytes_eq}
 use Rattle.wad_file.specs.Directory.{entry}
 use Rattle.wad_levels.specs.NamedLumps.{capital_name}

@@ -1,5 +1,5 @@
 //! A WAD's flats and textures.
-ghost use Rattle.std.specs.Prelude.{◌≡◌, ◌+◌, ◌*◌, ◌≤◌, ◌<◌, ◌++◌, true, length, map, IfOk, IsOkUnless, IsTrue, MatchResult, None, OnOk, Option};
+ghost use Rattle.std.specs.Prelude.{◌≡◌, ◌+◌, ◌*◌, ◌≤◌, ◌<◌, ◌++◌, true, length, IfOk, IsOkUnless, IsTrue, MatchResult, None, OnOk};
 ghost use Rattle.std.specs.List.{list_all, range_with_len};
 ghost use Rattle.wad_file.specs.Directory.{lump_count};
 ghost use Rattle.wad_levels.specs.Graphics.{RefusesGraphics, are_flats_open, are_textures, flat_names, graphics, graphics_refusal, graphics_view, is_texture_inside, texture_count, texture_from, textures_of};

@@ -1,6 +1,5 @@
 //! The widths of a WAD's patches.
 ghost use Rattle.std.specs.Prelude.{◌≡◌, ◌+◌, ◌*◌, ◌<◌, ◌≤◌, IfOk, IsOkUnless, length};
-ghost use Rattle.wad_file.specs.Directory.{lump_count};
 ghost use Rattle.wad_levels.specs.Patches.{AreEntries, patch_name_count, patch_widths, picture_width, width_of_name, width_of_number, widths_of_names};
 
 use crate::error::ReadError;

@@ -1,8 +1,7 @@
-use Rattle.std.proofs.Common.{◌≡◌, ◌∙◌, ap, arith, false, get_or, length, not, sym, take}
+use Rattle.std.proofs.Common.{ap, false, not, sym}
 use Rattle.std.proofs.lemmas.Bool.Decides.{when_false, when_true}
 use Rattle.std.proofs.lemmas.List.{take_all}
-use Rattle.lump_textures.specs.Marks.{IsFree, IsMarked, MarksColumns}
-use Rattle.lump_textures.specs.Patched.{is_patched}
+use Rattle.lump_textures.specs.Marks.{MarksColumns}
 use Rattle.lump_textures.proofs.MarkSteps.{columns_more, covered_once, covered_twice}
 use Rattle.lump_textures.proofs.patched.cover_all.Goals as goal
 
