@@ -7,7 +7,7 @@ _leveled() {
     fi
     case ${COMP_WORDS[COMP_CWORD-1]} in
     --only | --except)
-        mapfile -t COMPREPLY < <(compgen -W 'check no-start start-twice few-deathmatch-starts ceiling-below-floor tag-missing tag-of-no-sector tag-of-no-line line-special-unknown sector-special-unknown thing-type-unknown texture-hidden sector-inside-out line-crossed thing-outside door-without-back donut-without-back too-many-scrolls teleport-nowhere no-exit key-missing too-many-neighbours thing-stuck flat-unknown texture-unknown texture-short' -- "$word")
+        mapfile -t COMPREPLY < <(compgen -W 'check no-start start-twice few-deathmatch-starts ceiling-below-floor tag-missing tag-of-no-sector tag-of-no-line line-special-unknown sector-special-unknown thing-type-unknown texture-hidden sector-inside-out line-crossed thing-outside door-without-back donut-without-back too-many-scrolls teleport-nowhere no-exit key-missing too-many-neighbours thing-stuck flat-unknown texture-unknown texture-short texture-patched' -- "$word")
         return
         ;;
     esac

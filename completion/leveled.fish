@@ -1,5 +1,5 @@
 # Completes the arguments of leveled in fish.
-set -l rules check no-start start-twice few-deathmatch-starts ceiling-below-floor tag-missing tag-of-no-sector tag-of-no-line line-special-unknown sector-special-unknown thing-type-unknown texture-hidden sector-inside-out line-crossed thing-outside door-without-back donut-without-back too-many-scrolls teleport-nowhere no-exit key-missing too-many-neighbours thing-stuck flat-unknown texture-unknown texture-short
+set -l rules check no-start start-twice few-deathmatch-starts ceiling-below-floor tag-missing tag-of-no-sector tag-of-no-line line-special-unknown sector-special-unknown thing-type-unknown texture-hidden sector-inside-out line-crossed thing-outside door-without-back donut-without-back too-many-scrolls teleport-nowhere no-exit key-missing too-many-neighbours thing-stuck flat-unknown texture-unknown texture-short texture-patched
 set -l subcommands scratch create edit check lint draw dump picture build rebuild inspect help
 complete -c leveled -n "not __fish_seen_subcommand_from $subcommands" -f -a scratch -d 'Answer commands, with maps in memory only'
 complete -c leveled -n "not __fish_seen_subcommand_from $subcommands" -f -a create -d 'Make a project file'

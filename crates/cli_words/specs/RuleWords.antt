@@ -17,7 +17,8 @@ rule_words =
     ∷ codes "line-crossed" ∷ codes "thing-outside" ∷ codes "door-without-back"
     ∷ codes "donut-without-back" ∷ codes "too-many-scrolls" ∷ codes "teleport-nowhere"
     ∷ codes "no-exit" ∷ codes "key-missing" ∷ codes "too-many-neighbours" ∷ codes "thing-stuck"
-    ∷ codes "flat-unknown" ∷ codes "texture-unknown" ∷ codes "texture-short" ∷ []
+    ∷ codes "flat-unknown" ∷ codes "texture-unknown" ∷ codes "texture-short"
+    ∷ codes "texture-patched" ∷ []
 
 -- the word is one of these
 unfoldable pub is_rule_word : Text → Bool

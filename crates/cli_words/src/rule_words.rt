@@ -32,6 +32,7 @@ pub const RULE_WORDS: &[&str] = &[
     "flat-unknown",
     "texture-unknown",
     "texture-short",
+    "texture-patched",
 ];
 
 // Whether a word is one of some words.

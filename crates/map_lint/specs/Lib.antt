@@ -8,7 +8,10 @@ pub mod Borders
 pub mod Whereabouts
 pub mod Rules
 pub mod Rows
+pub mod Walls
+pub mod Surfaces
 pub mod Short
+pub mod Patched
 pub mod TextureIndex
 pub mod Graphics
 pub mod Tallies

@@ -1,5 +1,5 @@
 -- The rules of a level, and the items of a map that break them: a list by rule, then by number.
-use Rattle.std.specs.Prelude.{ℕ, Bool, false, ◌&&◌, ◌||◌, ◌==◌, not, nat_lt, List, [], ◌∷◌, length, map, filter, flat_map, slice_get, int_lt}
+use Rattle.std.specs.Prelude.{ℕ, Bool, false, ◌&&◌, ◌||◌, ◌==◌, not, nat_lt, List, [], ◌∷◌, length, map, filter, flat_map, slice_get, int_lt, None}
 use Rattle.std.specs.List.{range_with_len}
 use Rattle.std.specs.Option.{option_map_or}
 use Rattle.lump_records.specs.declared.records.Line.{Line}
@@ -120,7 +120,12 @@ rules_in_order =
 
 -- the warning that a number breaks the rule
 abbrev pub warning_of : Tables → Rule → ℕ → Warning
-warning_of m rule n = record { rule = rule; number = n; whereabouts = whereabouts_of m rule n }
+warning_of m rule n = record {
+  rule = rule;
+  number = n;
+  whereabouts = whereabouts_of m rule n;
+  shown = None;
+}
 
 -- a warning for each number that breaks the rule
 abbrev pub breaches : Tables → Rule → List Warning

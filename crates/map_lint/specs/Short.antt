@@ -1,7 +1,7 @@
 -- Walls that show rows past the last one of their textures.
-use Rattle.std.specs.Prelude.{◌&&◌, ◌||◌, Bool, List, None, Option, ℕ, ℤ, false, if◌then◌else◌, not}
+use Rattle.std.specs.Prelude.{◌&&◌, Bool, List, None, Option, ℕ, ℤ, false, if◌then◌else◌, not}
 use Rattle.std.specs.Option.{option_map_or}
-use Rattle.lump_records.specs.Sides.{has_left, is_two_sided}
+use Rattle.lump_records.specs.Sides.{is_two_sided}
 use Rattle.lump_records.specs.declared.records.Line.{Line}
 use Rattle.lump_records.specs.declared.records.Name8.{Name8}
 use Rattle.lump_records.specs.declared.records.Sector.{Sector}
@@ -9,9 +9,12 @@ use Rattle.lump_records.specs.declared.records.Side.{Side}
 use Rattle.lump_textures.specs.Named.{texture_named}
 use Rattle.lump_textures.specs.declared.texture.Texture.{Texture}
 use Rattle.map_tables.specs.Tables.{Tables}
-use Rattle.map_checks.specs.Textures.{is_missing, lower_shows, sector_faced, side_in, upper_shows}
+use Rattle.map_checks.specs.Textures.{is_missing, lower_shows, own_side, sector_faced, side_behind, side_in, upper_shows}
 use Rattle.map_lint.specs.Rows.{go_past, lower_rows, middle_rows, upper_rows}
 use Rattle.map_lint.specs.declared.rows.Rows.{Rows}
+use Rattle.map_lint.specs.declared.wall.Part.{Part}
+use Rattle.map_lint.specs.declared.wall.Part.TheVariants.{Upper, Lower, Middle}
+use Rattle.map_lint.specs.declared.wall.Wall.{Wall}
 
 -- the texture that the name means, where it isn't "no texture"
 abbrev pub texture_shown : List Texture → Name8 → Option Texture
@@ -37,28 +40,17 @@ abbrev pub lower_short : List Texture → Line → Side → Sector → Sector �
 lower_short textures l own s t =
     lower_shows s t && shows_past textures own.lower (λ height. lower_rows l own s t)
 
--- the upper or lower wall of the side `own`, in front of the side `behind`
-abbrev pub faces_short : List Texture → Tables → Line → ℕ → ℕ → Bool
-faces_short textures m l own behind =
-    upper_short textures l (side_in m own) (sector_faced m own) (sector_faced m behind)
-    || lower_short textures l (side_in m own) (sector_faced m own) (sector_faced m behind)
+-- the part of the side `own`, in front of the side `behind`: the upper or lower wall of a two-sided line, and the
+-- middle wall of any other
+abbrev pub part_short : List Texture → Tables → Line → ℕ → ℕ → Part → Bool
+part_short textures m l own behind Upper = is_two_sided l
+    && upper_short textures l (side_in m own) (sector_faced m own) (sector_faced m behind)
+part_short textures m l own behind Lower = is_two_sided l
+    && lower_short textures l (side_in m own) (sector_faced m own) (sector_faced m behind)
+part_short textures m l own behind Middle =
+    not (is_two_sided l) && middle_short textures l (side_in m own) (sector_faced m own)
 
--- the middle wall of the side `own`
-abbrev pub stands_short : List Texture → Tables → Line → ℕ → Bool
-stands_short textures m l own = middle_short textures l (side_in m own) (sector_faced m own)
-
--- a wall on the line's right: the upper or lower one if the line is two-sided, otherwise the middle
-abbrev pub right_short : List Texture → Tables → Line → Bool
-right_short textures m l =
-    if is_two_sided l then faces_short textures m l l.right l.left
-    else stands_short textures m l l.right
-
--- the same on the line's left, where it has one
-abbrev pub left_short : List Texture → Tables → Line → Bool
-left_short textures m l =
-    has_left l && (if is_two_sided l then faces_short textures m l l.left l.right
-    else stands_short textures m l l.left)
-
--- a wall on a side of the line shows rows past the last one of its texture
-abbrev pub texture_short : List Texture → Tables → Line → Bool
-texture_short textures m l = right_short textures m l || left_short textures m l
+-- the wall shows rows past the last one of its texture
+abbrev pub wall_short : List Texture → Tables → Line → Wall → Bool
+wall_short textures m l w =
+    part_short textures m l (own_side l w.is_left) (side_behind l w.is_left) w.part

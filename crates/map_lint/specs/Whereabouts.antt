@@ -4,7 +4,7 @@ use Rattle.std.specs.Option.{option_map_or}
 use Rattle.map_tables.specs.Tables.{Tables}
 use Rattle.map_tables.specs.WellFormed.{nth_vertex}
 use Rattle.map_lint.specs.declared.warning.Rule.{Rule}
-use Rattle.map_lint.specs.declared.warning.Rule.TheVariants.{OneStart, ThingFree, TagGiven, TagOfSector, LineSpecialKnown, ThingKnown, TextureShows, LinesApart, ThingInside, DoorBacked, DonutBacked, ScrollsFit, TeleportLands, KeyGiven, TextureKnown, TextureReaches}
+use Rattle.map_lint.specs.declared.warning.Rule.TheVariants.{OneStart, ThingFree, TagGiven, TagOfSector, LineSpecialKnown, ThingKnown, TextureShows, LinesApart, ThingInside, DoorBacked, DonutBacked, ScrollsFit, TeleportLands, KeyGiven, TextureKnown, TextureReaches, PatchesApart}
 use Rattle.map_lint.specs.declared.whereabouts.Whereabouts.{Whereabouts}
 use Rattle.map_lint.specs.declared.whereabouts.Whereabouts.TheVariants.{Unplaced, At, Between}
 use Rattle.lump_records.specs.Things.{thing_place}
@@ -37,4 +37,5 @@ whereabouts_of m TeleportLands n = along_line m n
 whereabouts_of m KeyGiven n = along_line m n
 whereabouts_of m TextureKnown n = along_line m n
 whereabouts_of m TextureReaches n = along_line m n
+whereabouts_of m PatchesApart n = along_line m n
 whereabouts_of m _ n = Unplaced

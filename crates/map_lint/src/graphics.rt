@@ -1,19 +1,22 @@
 //! Finds what a WAD's flats and textures lack for a level.
-ghost use Rattle.std.specs.Prelude.{◌≡◌, ◌++◌, IfOk, OnOk, IsOkUnless};
+ghost use Rattle.std.specs.Prelude.{◌≡◌, ◌++◌, IfOk, OnOk, IsOkUnless, option_and_then, option_to_list, slice_get, true};
+ghost use Rattle.lump_records.specs.Sides.{has_left};
 ghost use Rattle.map_tables.specs.WellFormed.{HasSides};
-ghost use Rattle.map_lint.specs.Rules.{at_item};
-ghost use Rattle.map_lint.specs.Short.{texture_short};
 ghost use Rattle.map_lint.specs.TextureIndex.{IsTextureIndex};
-ghost use Rattle.map_lint.specs.Graphics.{IsNameSet, is_one_of, is_flat_known, is_texture_known, is_side_known, flat_unknown, texture_unknown, graphic_breaks, graphic_breaches, graphic_warnings};
+ghost use Rattle.map_lint.specs.Graphics.{IsNameSet, graphic_breaches, graphic_warning, graphic_warnings, is_flat_known, is_one_of, is_texture_known, shows_wrong, unknown_flat, wall_breaks, wrong_on, wrong_wall};
 
 use crate::error::LintError;
+use crate::patched::wall_patched;
 use crate::rules::{names_texture, reach};
-use crate::short::texture_short;
+use crate::short::wall_short;
+use crate::shown::Shown;
 use crate::texture_index::{TextureIndex, index_of};
+use crate::wall::{Surface, WALLS, Wall};
+use crate::walls::{has_wall, name_on};
 use crate::warning::{Rule, Warning};
 use crate::whereabouts::whereabouts_of;
 use indexmap::IndexSet;
-use lump_records::{Line, Name8, Sector, Side};
+use lump_records::{Line, Name8, Sector};
 use lump_textures::Texture;
 use map_tables::Map;
 use std::alloc::Global;
@@ -26,7 +29,12 @@ struct NameSet<'a> {
 }
 
 // The rules that a WAD's flats and textures decide, in the order of their warnings.
-const GRAPHIC_RULES: [Rule; 3] = [Rule::FlatKnown, Rule::TextureKnown, Rule::TextureReaches];
+const GRAPHIC_RULES: [Rule; 4] = [
+    Rule::FlatKnown,
+    Rule::TextureKnown,
+    Rule::TextureReaches,
+    Rule::PatchesApart,
+];
 
 // The names as a set.
 fn set_of<'a>(alloc: Global, names: &'a [Name8]) -> Result<NameSet<'a>, LintError>
@@ -66,92 +74,145 @@ fn is_texture_known(textures: &TextureIndex<'_>, name: &Name8) -> bool
     !names_texture(name) || textures.named(name).is_some()
 }
 
-// Whether each of the side's three texture names is known.
-fn is_side_known(textures: &TextureIndex<'_>, side: &Side) -> bool
-    requires { IsTextureIndex textures.now }
-    ensures { result ≡ is_side_known textures.now.textures.now side.now }
-{
-    is_texture_known(textures, &side.upper)
-        && is_texture_known(textures, &side.lower)
-        && is_texture_known(textures, &side.middle)
-}
-
-// Whether the flat of the sector's floor or ceiling is unknown.
-fn flat_unknown(flats: &NameSet<'_>, sector: &Sector) -> bool
+// The floor or else the ceiling of the sector, if its flat is unknown.
+fn unknown_flat(flats: &NameSet<'_>, sector: &Sector) -> Option<Shown>
     requires { IsNameSet flats.now }
-    ensures { result ≡ flat_unknown flats.now.names.now sector.now }
+    ensures { result ≡ unknown_flat flats.now.names.now sector.now }
 {
-    !is_flat_known(flats, &sector.floor_name) || !is_flat_known(flats, &sector.ceiling_name)
+    if !is_flat_known(flats, &sector.floor_name) {
+        return Some(Shown {
+            surface: Surface::Floor,
+            name: sector.floor_name,
+        });
+    }
+    if !is_flat_known(flats, &sector.ceiling_name) {
+        return Some(Shown {
+            surface: Surface::Ceiling,
+            name: sector.ceiling_name,
+        });
+    }
+    None
 }
 
-// Whether a texture on a side of the line is unknown.
-fn texture_unknown(textures: &TextureIndex<'_>, map: &Map, line: &Line) -> bool
+// Whether what the wall shows breaks the rule.
+fn shows_wrong(textures: &TextureIndex<'_>, map: &Map, rule: Rule, line: &Line, wall: Wall) -> bool
     requires set { IsTextureIndex textures.now }
     requires sides { HasSides map.now.tables.sides line.now }
-    ensures { result ≡ texture_unknown textures.now.textures.now map.now.tables line.now }
+    requires wall { wall.is_left ≡ true → has_left line.now ≡ true }
+    ensures { result ≡ shows_wrong textures.now.textures.now map.now.tables rule line.now wall }
 {
-    let right = map.side(u32::from(line.right)).unwrap();
-    if !line.has_left() {
-        return !is_side_known(textures, &right);
+    match rule {
+        Rule::TextureKnown => !is_texture_known(textures, &name_on(map, line, wall)),
+        Rule::TextureReaches => wall_short(textures, map, line, wall),
+        Rule::PatchesApart => wall_patched(textures, map, line, wall),
+        _ => false,
     }
-    let left = map.side(u32::from(line.left)).unwrap();
-    !is_side_known(textures, &right) || !is_side_known(textures, &left)
 }
 
-// Whether there is a sector n, and a flat of it is unknown.
-fn sector_at_lacks(flats: &NameSet<'_>, map: &Map, n: u32) -> bool
+// Whether the line has the wall, and what it shows breaks the rule.
+fn wall_breaks(textures: &TextureIndex<'_>, map: &Map, rule: Rule, line: &Line, wall: Wall) -> bool
+    requires set { IsTextureIndex textures.now }
+    requires sides { HasSides map.now.tables.sides line.now }
+    ensures breaks { result
+        ≡ wall_breaks textures.now.textures.now map.now.tables rule line.now wall }
+    ensures there { result ≡ true → wall.is_left ≡ true → has_left line.now ≡ true }
+{
+    has_wall(line, wall) && shows_wrong(textures, map, rule, line, wall)
+}
+
+// The first wall of the line that breaks the rule, and the name on it.
+fn wrong_wall(textures: &TextureIndex<'_>, map: &Map, rule: Rule, line: &Line) -> Option<Shown>
+    requires set { IsTextureIndex textures.now }
+    requires sides { HasSides map.now.tables.sides line.now }
+    ensures { result ≡ wrong_wall textures.now.textures.now map.now.tables rule line.now }
+{
+    for wall in &WALLS {
+        if wall_breaks(textures, map, rule, line, *wall) {
+            return Some(Shown {
+                surface: Surface::OfLine(*wall),
+                name: name_on(map, line, *wall),
+            });
+        }
+    }
+    None
+}
+
+// What shows on sector n that breaks the rule on flats.
+fn wrong_on_sector(flats: &NameSet<'_>, map: &Map, n: u32) -> Option<Shown>
     requires { IsNameSet flats.now }
-    ensures { result ≡ at_item (flat_unknown flats.now.names.now) map.now.tables.sectors n }
+    ensures { result ≡ option_and_then (unknown_flat flats.now.names.now)
+        (slice_get map.now.tables.sectors n) }
 {
     match map.sector(n) {
-        Some(sector) => flat_unknown(flats, &sector),
-        None => false,
+        Some(sector) => unknown_flat(flats, &sector),
+        None => None,
     }
 }
 
-// Whether there is a line n, and a texture of its sides is unknown.
-fn line_at_lacks(textures: &TextureIndex<'_>, map: &Map, n: u32) -> bool
-    requires { IsTextureIndex textures.now }
-    ensures { result ≡ at_item (texture_unknown textures.now.textures.now map.now.tables)
-        map.now.tables.lines n }
-{
-    match map.line(n) {
-        Some(line) => texture_unknown(textures, map, &line),
-        None => false,
-    }
-}
-
-// Whether there is a line n, and a wall of it shows rows past the last one of its texture.
-fn line_at_short(textures: &TextureIndex<'_>, map: &Map, n: u32) -> bool
+// What shows on line n that breaks a rule on textures.
+fn wrong_on_line(textures: &TextureIndex<'_>, map: &Map, rule: Rule, n: u32) -> Option<Shown>
     requires { IsTextureIndex textures.now }
     ensures { result
-        ≡ at_item (texture_short textures.now.textures.now map.now.tables) map.now.tables.lines n }
+        ≡ option_and_then (wrong_wall textures.now.textures.now map.now.tables rule)
+        (slice_get map.now.tables.lines n) }
 {
     match map.line(n) {
-        Some(line) => texture_short(textures, map, &line),
-        None => false,
+        Some(line) => wrong_wall(textures, map, rule, &line),
+        None => None,
     }
 }
 
-// Whether item n breaks the rule.
-fn graphic_breaks(
+// What shows on item n that breaks the rule.
+fn wrong_on(
     flats: &NameSet<'_>,
     textures: &TextureIndex<'_>,
     map: &Map,
     rule: Rule,
     n: u32,
-) -> bool
+) -> Option<Shown>
     requires flats { IsNameSet flats.now }
     requires textures { IsTextureIndex textures.now }
     ensures { result
-        ≡ graphic_breaks flats.now.names.now textures.now.textures.now map.now.tables rule n }
+        ≡ wrong_on flats.now.names.now textures.now.textures.now map.now.tables rule n }
 {
     match rule {
-        Rule::FlatKnown => sector_at_lacks(flats, map, n),
-        Rule::TextureKnown => line_at_lacks(textures, map, n),
-        Rule::TextureReaches => line_at_short(textures, map, n),
-        _ => false,
+        Rule::FlatKnown => wrong_on_sector(flats, map, n),
+        _ => wrong_on_line(textures, map, rule, n),
     }
+}
+
+// The warning about item n, if it breaks the rule.
+fn graphic_warning(
+    flats: &NameSet<'_>,
+    textures: &TextureIndex<'_>,
+    map: &Map,
+    rule: Rule,
+    n: u32,
+) -> Option<Warning>
+    requires flats { IsNameSet flats.now }
+    requires textures { IsTextureIndex textures.now }
+    ensures { result
+        ≡ graphic_warning flats.now.names.now textures.now.textures.now map.now.tables rule n }
+{
+    match wrong_on(flats, textures, map, rule, n) {
+        Some(shown) => Some(Warning {
+            rule,
+            number: n,
+            whereabouts: whereabouts_of(map, rule, n),
+            shown: Some(shown),
+        }),
+        None => None,
+    }
+}
+
+// Adds the warning, if there is one.
+fn add(warning: Option<Warning>, found: &mut Vec<Warning>) -> Result<(), LintError>
+    ensures { OnOk result (found.new.items ≡ found.old.items ++ option_to_list warning) }
+{
+    if let Some(warning) = warning {
+        found.push(warning)?;
+    }
+    Ok(())
 }
 
 // Adds a warning for each item that breaks the rule.
@@ -168,22 +229,16 @@ fn list_graphics(
         ++ graphic_breaches flats.now.names.now textures.now.textures.now map.now.tables rule) }
 {
     for n in 0..reach(map, rule) {
-        if graphic_breaks(flats, textures, map, rule, n) {
-            let whereabouts = whereabouts_of(map, rule, n);
-            found.push(Warning {
-                rule,
-                number: n,
-                whereabouts,
-            })?;
-        }
+        add(graphic_warning(flats, textures, map, rule, n), found)?;
     }
     Ok(())
 }
 
 /// Lists what a WAD with these flats and textures lacks for a level: a warning for each sector with an unknown flat,
-/// for each line with an unknown texture on a side, and for each line of which a wall shows rows past the last one of
-/// its texture, by number. `F_SKY1` is always known, as the sky, and so is `-`, as no texture. Fails only if memory
-/// runs out.
+/// for each line with an unknown texture on a side, for each line of which a wall shows rows past the last one of its
+/// texture, and for each two-sided line with a middle texture of which several patches share a column, by number. Each
+/// names the first surface of which this holds, and what is on it. `F_SKY1` is always known, as the sky, and so is `-`,
+/// as no texture. Fails only if memory runs out.
 pub fn lint_graphics(
     alloc: Global,
     map: &Map,

@@ -54,6 +54,7 @@ fn list_breaches(
                 rule,
                 number: n,
                 whereabouts,
+                shown: None,
             })?;
         }
     }

@@ -1,19 +1,22 @@
 //! Walls that show rows past the last one of their textures.
-ghost use Rattle.std.specs.Prelude.{◌≡◌, ◌<◌, length};
+ghost use Rattle.std.specs.Prelude.{◌≡◌, ◌<◌, length, true};
+ghost use Rattle.lump_records.specs.Sides.{has_left, is_two_sided};
 ghost use Rattle.map_tables.specs.WellFormed.{HasSector, HasSides};
 ghost use Rattle.map_checks.specs.Textures.{sector_faced, side_in, upper_shows};
-ghost use Rattle.map_lint.specs.Short.{faces_short, left_short, lower_short, middle_short, right_short, stands_short, texture_short, texture_shown, upper_short};
+ghost use Rattle.map_lint.specs.Short.{lower_short, middle_short, part_short, texture_shown, upper_short, wall_short};
 ghost use Rattle.map_lint.specs.TextureIndex.{IsTextureIndex};
 
 use crate::rows::{go_past, is_sky, lower_rows, middle_rows, upper_rows};
 use crate::rules::names_texture;
 use crate::texture_index::TextureIndex;
+use crate::wall::{Part, Wall};
+use crate::walls::{is_middle, own_side};
 use lump_records::{Line, Name8, Sector, Side};
 use lump_textures::Texture;
 use map_tables::Map;
 
-// The texture that the name means, if it isn't "no texture".
-fn texture_shown(textures: &TextureIndex<'_>, name: &Name8) -> Option<Texture>
+/// The texture that the name means, if it isn't "no texture".
+pub(crate) fn texture_shown(textures: &TextureIndex<'_>, name: &Name8) -> Option<Texture>
     requires { IsTextureIndex textures.now }
     ensures { result ≡ texture_shown textures.now.textures.now name.now }
 {
@@ -88,8 +91,8 @@ fn lower_short(
     }
 }
 
-// The side with the number.
-fn side_in(map: &Map, n: u16) -> Side
+/// The side with the number.
+pub(crate) fn side_in(map: &Map, n: u16) -> Side
     requires { n < length map.now.tables.sides }
     ensures value { result ≡ side_in map.now.tables n }
     ensures sector { HasSector map.now.tables.sectors result }
@@ -106,61 +109,43 @@ fn sector_of(map: &Map, side: u16) -> Sector
     map.sector(u32::from(sector)).unwrap()
 }
 
-// Whether a wall of the side `own`, in front of the side `behind`, does: the upper or the lower one.
-fn faces_short(textures: &TextureIndex<'_>, map: &Map, line: &Line, own: u16, behind: u16) -> bool
+// Whether the part of the side `own` does, in front of the side `behind`: the upper or the lower wall of a two-sided
+// line, the middle wall of any other.
+fn part_short(
+    textures: &TextureIndex<'_>,
+    map: &Map,
+    line: &Line,
+    own: u16,
+    behind: u16,
+    part: Part,
+) -> bool
     requires set { IsTextureIndex textures.now }
     requires own { own < length map.now.tables.sides }
-    requires behind { behind < length map.now.tables.sides }
-    ensures { result ≡ faces_short textures.now.textures.now map.now.tables line.now own behind }
+    requires behind { is_two_sided line.now ≡ true → behind < length map.now.tables.sides }
+    ensures { result
+        ≡ part_short textures.now.textures.now map.now.tables line.now own behind part }
 {
     let side = side_in(map, own);
     let near = sector_of(map, own);
+    if !line.is_two_sided() {
+        return is_middle(part) && middle_short(textures, line, &side, &near);
+    }
     let far = sector_of(map, behind);
-    upper_short(textures, line, &side, &near, &far)
-        || lower_short(textures, line, &side, &near, &far)
+    match part {
+        Part::Upper => upper_short(textures, line, &side, &near, &far),
+        Part::Lower => lower_short(textures, line, &side, &near, &far),
+        Part::Middle => false,
+    }
 }
 
-// Whether the middle wall of the side does.
-fn stands_short(textures: &TextureIndex<'_>, map: &Map, line: &Line, own: u16) -> bool
-    requires set { IsTextureIndex textures.now }
-    requires own { own < length map.now.tables.sides }
-    ensures { result ≡ stands_short textures.now.textures.now map.now.tables line.now own }
-{
-    middle_short(textures, line, &side_in(map, own), &sector_of(map, own))
-}
-
-// Whether a wall on the line's right does.
-fn right_short(textures: &TextureIndex<'_>, map: &Map, line: &Line) -> bool
+/// Whether the wall shows rows past the last one of its texture.
+pub(crate) fn wall_short(textures: &TextureIndex<'_>, map: &Map, line: &Line, wall: Wall) -> bool
     requires set { IsTextureIndex textures.now }
     requires sides { HasSides map.now.tables.sides line.now }
-    ensures { result ≡ right_short textures.now.textures.now map.now.tables line.now }
+    requires wall { wall.is_left ≡ true → has_left line.now ≡ true }
+    ensures { result ≡ wall_short textures.now.textures.now map.now.tables line.now wall }
 {
-    if line.is_two_sided() {
-        return faces_short(textures, map, line, line.right, line.left);
-    }
-    stands_short(textures, map, line, line.right)
-}
-
-// Whether a wall on the line's left does, if it has one.
-fn left_short(textures: &TextureIndex<'_>, map: &Map, line: &Line) -> bool
-    requires set { IsTextureIndex textures.now }
-    requires sides { HasSides map.now.tables.sides line.now }
-    ensures { result ≡ left_short textures.now.textures.now map.now.tables line.now }
-{
-    if !line.has_left() {
-        return false;
-    }
-    if line.is_two_sided() {
-        return faces_short(textures, map, line, line.left, line.right);
-    }
-    stands_short(textures, map, line, line.left)
-}
-
-/// Whether a wall on a side of the line shows rows past the last one of its texture.
-pub(crate) fn texture_short(textures: &TextureIndex<'_>, map: &Map, line: &Line) -> bool
-    requires set { IsTextureIndex textures.now }
-    requires sides { HasSides map.now.tables.sides line.now }
-    ensures { result ≡ texture_short textures.now.textures.now map.now.tables line.now }
-{
-    right_short(textures, map, line) || left_short(textures, map, line)
+    let own = own_side(line, wall.is_left);
+    let behind = own_side(line, !wall.is_left);
+    part_short(textures, map, line, own, behind, wall.part)
 }

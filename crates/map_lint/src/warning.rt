@@ -1,4 +1,5 @@
 //! A warning, and its line of text.
+use crate::shown::Shown;
 use crate::whereabouts::Whereabouts;
 use std::fmt;
 
@@ -58,14 +59,18 @@ pub enum Rule {
     TextureKnown,
     /// A texture of fewer than 128 rows has all rows that a line's walls show of it.
     TextureReaches,
+    /// The patches of a middle texture on a two-sided line share no column.
+    PatchesApart,
 }
 
-/// A broken rule, the number of the item that breaks it, and where to look for the item.
+/// A broken rule, the number of the item that breaks it, where to look for the item, and, of a rule on flats and
+/// textures, the first surface of the item that breaks it.
 #[derive(Clone, Copy, Debug, PartialEq, Eq)]
 pub struct Warning {
     pub rule: Rule,
     pub number: u32,
     pub whereabouts: Whereabouts,
+    pub shown: Option<Shown>,
 }
 
 impl Rule {
@@ -102,6 +107,23 @@ impl Rule {
             Rule::FlatKnown => "flat-unknown",
             Rule::TextureKnown => "texture-unknown",
             Rule::TextureReaches => "texture-short",
+            Rule::PatchesApart => "texture-patched",
+        }
+    }
+}
+
+impl fmt::Display for Whereabouts {
+    ghost use Rattle.std.specs.Prelude.{Some};
+    ghost use Rattle.map_lint.specs.Texts.{whereabouts_text};
+
+    ghost output = { λ w. Some (whereabouts_text w) };
+
+    // With a space in front, so that a warning without a place ends behind its number.
+    fn fmt<W: fmt::Write>(&self, f: &mut fmt::Formatter<W>) -> fmt::Result {
+        match *self {
+            Whereabouts::Unplaced => Ok(()),
+            Whereabouts::At(v) => write!(f, " at ({},{})", v.x, v.y),
+            Whereabouts::Between(v, w) => write!(f, " at ({},{}) ({},{})", v.x, v.y, w.x, w.y),
         }
     }
 }
@@ -115,12 +137,10 @@ impl fmt::Display for Warning {
     fn fmt<W: fmt::Write>(&self, f: &mut fmt::Formatter<W>) -> fmt::Result {
         let word = self.rule.word();
         let number = self.number;
-        match self.whereabouts {
-            Whereabouts::Unplaced => write!(f, "{word} {number}"),
-            Whereabouts::At(v) => write!(f, "{word} {number} at ({},{})", v.x, v.y),
-            Whereabouts::Between(v, w) => {
-                write!(f, "{word} {number} at ({},{}) ({},{})", v.x, v.y, w.x, w.y)
-            }
+        let whereabouts = self.whereabouts;
+        match self.shown {
+            None => write!(f, "{word} {number}{whereabouts}"),
+            Some(shown) => write!(f, "{word} {number}{whereabouts} {shown}"),
         }
     }
 }

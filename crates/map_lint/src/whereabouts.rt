@@ -61,6 +61,7 @@ pub(crate) fn whereabouts_of(map: &Map, rule: Rule, n: u32) -> Whereabouts
         Rule::KeyGiven => along_line(map, n),
         Rule::TextureKnown => along_line(map, n),
         Rule::TextureReaches => along_line(map, n),
+        Rule::PatchesApart => along_line(map, n),
         _ => Whereabouts::Unplaced,
     }
 }

@@ -21,8 +21,37 @@ const PAST: &[u8] = b"\x01\0\0\0\x09\0\0\0SKY4\0\0\0\0\0\0\0\0\0\x01\x80\0\0\0\0
 
 const CUT: &[u8] = b"\x02\0\0\0\x08\0\0\0";
 
+// One texture, 8 columns wide, with two patches, numbers 0 and 0, at column 0 and at column 4; at column 3; at 8 and 9,
+// where the texture has ended; at -4 and -1; at column 3 with number 1; the same with number 2; and the one at column 3
+// without its last byte.
+const APART: &[u8] = b"\x01\0\0\0\x08\0\0\0GRATE\0\0\0\0\0\0\0\x08\0\x48\0\0\0\0\0\x02\0\
+    \0\0\0\0\0\0\x01\0\0\0\x04\0\0\0\0\0\x01\0\0\0";
+
+const SHARED: &[u8] = b"\x01\0\0\0\x08\0\0\0GRATE\0\0\0\0\0\0\0\x08\0\x48\0\0\0\0\0\x02\0\
+    \0\0\0\0\0\0\x01\0\0\0\x03\0\0\0\0\0\x01\0\0\0";
+
+const BEHIND: &[u8] = b"\x01\0\0\0\x08\0\0\0GRATE\0\0\0\0\0\0\0\x08\0\x48\0\0\0\0\0\x02\0\
+    \x08\0\0\0\0\0\x01\0\0\0\x09\0\0\0\0\0\x01\0\0\0";
+
+const BEFORE: &[u8] = b"\x01\0\0\0\x08\0\0\0GRATE\0\0\0\0\0\0\0\x08\0\x48\0\0\0\0\0\x02\0\
+    \xfc\xff\0\0\0\0\x01\0\0\0\xff\xff\0\0\0\0\x01\0\0\0";
+
+const MISSING: &[u8] = b"\x01\0\0\0\x08\0\0\0GRATE\0\0\0\0\0\0\0\x08\0\x48\0\0\0\0\0\x02\0\
+    \0\0\0\0\0\0\x01\0\0\0\x03\0\0\0\x01\0\x01\0\0\0";
+
+const UNNAMED: &[u8] = b"\x01\0\0\0\x08\0\0\0GRATE\0\0\0\0\0\0\0\x08\0\x48\0\0\0\0\0\x02\0\
+    \0\0\0\0\0\0\x01\0\0\0\x03\0\0\0\x02\0\x01\0\0\0";
+
+const CUT_PATCH: &[u8] = b"\x01\0\0\0\x08\0\0\0GRATE\0\0\0\0\0\0\0\x08\0\x48\0\0\0\0\0\x02\0\
+    \0\0\0\0\0\0\x01\0\0\0\x03\0\0\0\0\0\x01\0\0";
+
+// Names of two patches, BARS in small letters, and NONE; the same without the last byte of the second.
+const PATCHES: &[u8] = b"\x02\0\0\0bars\0\0\0\0NONE\0\0\0\0";
+
+const LISTED: &[u8] = b"\x02\0\0\0BARS\0\0\0\0BARS\0\0\0";
+
 // The lumps of a WAD; and the names of its flats, then those of its textures with their rows, each followed by a space,
-// or the refusal's number.
+// and by `patched` if patches of the texture share a column; or the refusal's number.
 #[rattlefmt::skip]
 const NAMED: &[(&[(&[u8; 8], &[u8])], &[u8])] = &[
     (&[], b"; "),
@@ -37,6 +66,34 @@ const NAMED: &[(&[(&[u8; 8], &[u8])], &[u8])] = &[
     (&[(b"TEXTURE1", TWO), (b"TEXTURE2", ONE)], b"; BRICK1 72 STEP2 128 SKY4 128 "),
     (&[(b"TEXTURE2", TWO), (b"TEXTURE1", CUT), (b"TEXTURE1", ONE)], b"; SKY4 128 BRICK1 72 STEP2 128 "),
     (&[(b"TEXTURE1", b""), (b"TEXTURE2", b"\0\0\0\0")], b"; "),
+    (&[(b"TEXTURE1", APART), (b"PNAMES\0\0", PATCHES), (b"BARS\0\0\0\0", b"\x04\0")], b"; GRATE 72 "),
+    (&[(b"TEXTURE1", SHARED), (b"PNAMES\0\0", PATCHES), (b"BARS\0\0\0\0", b"\x04\0")], b"; GRATE 72 patched "),
+    (&[(b"TEXTURE2", SHARED), (b"PNAMES\0\0", PATCHES), (b"Bars\0x\0\0", b"\x04\0xx")], b"; GRATE 72 patched "),
+    (
+        &[
+            (b"TEXTURE1", APART), (b"PNAMES\0\0", PATCHES), (b"BARS\0\0\0\0", b"\x04\0"),
+            (b"BARS\0\0\0\0", b"\x05\0"),
+        ],
+        b"; GRATE 72 patched ",
+    ),
+    (
+        &[
+            (b"TEXTURE1", APART), (b"PNAMES\0\0", PATCHES), (b"BARS\0\0\0\0", b"\x05\0"),
+            (b"BARS\0\0\0\0", b"\x04\0"),
+        ],
+        b"; GRATE 72 ",
+    ),
+    (&[(b"TEXTURE1", BEHIND), (b"PNAMES\0\0", PATCHES), (b"BARS\0\0\0\0", b"\x04\0")], b"; GRATE 72 "),
+    (&[(b"TEXTURE1", BEFORE), (b"PNAMES\0\0", PATCHES), (b"BARS\0\0\0\0", b"\x04\0")], b"; GRATE 72 "),
+    (&[(b"TEXTURE1", BEFORE), (b"PNAMES\0\0", PATCHES), (b"BARS\0\0\0\0", b"\x05\0")], b"; GRATE 72 patched "),
+    (&[(b"TEXTURE1", MISSING), (b"PNAMES\0\0", PATCHES), (b"BARS\0\0\0\0", b"\x04\0")], b"; GRATE 72 "),
+    (&[(b"TEXTURE1", UNNAMED), (b"PNAMES\0\0", PATCHES), (b"BARS\0\0\0\0", b"\x04\0")], b"; GRATE 72 "),
+    (&[(b"TEXTURE1", MISSING), (b"PNAMES\0\0", LISTED), (b"BARS\0\0\0\0", b"\x04\0")], b"; GRATE 72 "),
+    (&[(b"TEXTURE1", CUT_PATCH), (b"PNAMES\0\0", PATCHES), (b"BARS\0\0\0\0", b"\x04\0")], b"; GRATE 72 "),
+    (&[(b"TEXTURE1", SHARED), (b"PNAMES\0\0", PATCHES), (b"BARS\0\0\0\0", b"\x04")], b"; GRATE 72 "),
+    (&[(b"TEXTURE1", SHARED), (b"PNAMES\0\0", PATCHES), (b"BARS\0\0\0\0", b"\xff\xff")], b"; GRATE 72 "),
+    (&[(b"TEXTURE1", SHARED), (b"PNAMES\0\0", b"\x02"), (b"BARS\0\0\0\0", b"\x04\0")], b"; GRATE 72 "),
+    (&[(b"TEXTURE1", SHARED), (b"BARS\0\0\0\0", b"\x04\0")], b"; GRATE 72 "),
     (&[(b"TEXTURE1", PAST)], b"76"),
     (&[(b"TEXTURE1", CUT)], b"76"),
     (&[(b"TEXTURE2", b"\0\0\0")], b"76"),
@@ -59,11 +116,14 @@ fn put(names: &[Name8], text: &mut Vec<u8>) -> Result<(), Fail> {
     Ok(())
 }
 
-// Appends the textures: the name and the rows of each, each followed by a space.
+// Appends the textures: the name and the rows of each, each followed by a space, and whether patches share a column.
 fn put_textures(textures: &[Texture], text: &mut Vec<u8>) -> Result<(), Fail> {
     for texture in textures {
         put(&[texture.name], text)?;
         write!(text, "{} ", texture.height)?;
+        if texture.is_patched {
+            text.extend_from_slice(b"patched ")?;
+        }
     }
     Ok(())
 }

@@ -33,3 +33,5 @@ mod picture;
 mod shapes;
 #[cfg(test)]
 mod stops;
+#[cfg(test)]
+mod textures;

@@ -2,9 +2,8 @@
 
 use crate::drawing::{ROOM, SECTOR, TWO_ROOMS, draw, drawn};
 use crate::expect::same;
-use lump_records::{Name8, Vertex};
-use lump_textures::Texture;
-use map_lint::{Rule, Warning, Whereabouts, lint, lint_graphics};
+use lump_records::Vertex;
+use map_lint::{Rule, Warning, Whereabouts, lint};
 use map_tables::Map;
 use std::alloc::Global;
 use std::test::Fail;
@@ -162,16 +161,19 @@ const FOUND: [Warning; 3] = [
         rule: Rule::PlayerStart,
         number: 1,
         whereabouts: Whereabouts::Unplaced,
+        shown: None,
     },
     Warning {
         rule: Rule::ThingInside,
         number: 0,
         whereabouts: Whereabouts::At(Vertex { x: 200, y: 64 }),
+        shown: None,
     },
     Warning {
         rule: Rule::LevelEnds,
         number: 0,
         whereabouts: Whereabouts::Unplaced,
+        shown: None,
     },
 ];
 
@@ -180,180 +182,5 @@ fn a_warning_has_its_rule_number_and_place(rt: HostRuntime) -> Result<(), Fail> 
     let maps = drawn(rt.alloc(), &[ROOM, b"thing 200 64 90 2001 7"])?;
     let found = lint(rt.alloc(), maps.current())?;
     assert_eq!(rt; found.as_slice(), FOUND.as_slice());
-    Ok(())
-}
-
-const FLOOR: Name8 = Name8 {
-    bytes: *b"FLOOR4_8",
-};
-
-const CEILING: Name8 = Name8 {
-    bytes: *b"CEIL3_5\0",
-};
-
-const WALL: Texture = Texture {
-    name: Name8 {
-        bytes: *b"STARTAN3",
-    },
-    height: 128,
-};
-
-// Further lines in a room, the flats and the textures of a WAD, and the warnings about names that the WAD lacks. The
-// sky needs no flat, and `-` no texture.
-#[rattlefmt::skip]
-const BEYOND: &[(&[&[u8]], &[Name8], &[Texture], &str)] = &[
-    (&[], &[CEILING, FLOOR], &[WALL], ""),
-    (&[], &[FLOOR], &[WALL], "flat-unknown 0\n"),
-    (&[], &[CEILING], &[WALL], "flat-unknown 0\n"),
-    (&[b"set-sector 0 0 128 FLOOR4_8 F_SKY1 160 0 0"], &[FLOOR], &[WALL], ""),
-    (&[b"set-side 2 0 0 - - BRICK1 0"], &[CEILING, FLOOR], &[WALL], "texture-unknown 2 at (128,128) (128,0)\n"),
-    (&[b"set-side 2 0 0 - BRICK1 - 0"], &[CEILING, FLOOR], &[WALL], "texture-unknown 2 at (128,128) (128,0)\n"),
-    (&[b"set-side 2 0 0 - - - 0"], &[CEILING, FLOOR], &[WALL], ""),
-];
-
-// The warnings about flats and textures in a room with further lines.
-fn beyond(
-    alloc: Global,
-    further: &[&[u8]],
-    flats: &[Name8],
-    textures: &[Texture],
-) -> Result<String, Fail> {
-    let mut maps = drawn(alloc, &[ROOM])?;
-    draw(&mut maps, further)?;
-    let mut text = String::new(alloc);
-    for warning in &lint_graphics(alloc, maps.current(), flats, textures)? {
-        writeln!(text, "{warning}")?;
-    }
-    Ok(text)
-}
-
-#[test]
-fn a_map_may_have_names_that_a_wad_lacks(rt: HostRuntime) -> Result<(), Fail> {
-    for &(further, flats, textures, warnings) in BEYOND {
-        let found = beyond(rt.alloc(), further, flats, textures)?;
-        same(&rt, &found.as_str(), &warnings);
-    }
-    Ok(())
-}
-
-// A texture with so many rows.
-const fn rows(height: i16) -> Texture {
-    Texture {
-        name: Name8 {
-            bytes: *b"SHORT\0\0\0",
-        },
-        height,
-    }
-}
-
-// A wall of the room with that texture: line 2, from ceiling 128 to floor 0.
-const HUNG: &[u8] = b"set-side 2 0 0 - - SHORT 0";
-
-// The warning that line 2 shows too many of the texture's rows.
-const PAST: &str = "texture-short 2 at (128,128) (128,0)\n";
-
-// Further lines in the room, how many rows the texture has, and the warnings. A wall of 128 rows shows all of a texture
-// with 128, and goes past the last one of a texture with fewer. A wall of 64 rows shows all of a texture with 64; with
-// an offset of 1, or of -1, it shows row 64, or row 127, which that one lacks. With flag 16 its last row is at the
-// floor. The engine keeps the lowest 7 bits of a row, so that an offset of 128 is none.
-#[rattlefmt::skip]
-const SHOWN: &[(&[&[u8]], i16, &str)] = &[
-    (&[HUNG], 128, ""),
-    (&[HUNG], 127, PAST),
-    (&[HUNG], 256, ""),
-    (&[HUNG, b"set-sector 0 0 64 FLOOR4_8 CEIL3_5 160 0 0"], 64, ""),
-    (&[HUNG, b"set-sector 0 0 65 FLOOR4_8 CEIL3_5 160 0 0"], 64, PAST),
-    (&[HUNG, b"set-sector 0 0 0 FLOOR4_8 CEIL3_5 160 0 0"], 64, ""),
-    (&[b"set-side 2 0 1 - - SHORT 0", b"set-sector 0 0 64 FLOOR4_8 CEIL3_5 160 0 0"], 64, PAST),
-    (&[b"set-side 2 0 -1 - - SHORT 0", b"set-sector 0 0 64 FLOOR4_8 CEIL3_5 160 0 0"], 64, PAST),
-    (&[b"set-side 2 0 128 - - SHORT 0", b"set-sector 0 0 64 FLOOR4_8 CEIL3_5 160 0 0"], 64, ""),
-    (&[b"set-side 2 0 -128 - - SHORT 0", b"set-sector 0 0 64 FLOOR4_8 CEIL3_5 160 0 0"], 64, ""),
-    (&[b"set-side 2 0 8 - - SHORT 0", b"set-sector 0 0 64 FLOOR4_8 CEIL3_5 160 0 0"], 72, ""),
-    (&[HUNG, b"set-line 2 2 3 17 0 0 2 -", b"set-sector 0 0 32 FLOOR4_8 CEIL3_5 160 0 0"], 64, ""),
-    (&[HUNG, b"set-line 2 2 3 17 0 0 2 -", b"set-sector 0 0 72 FLOOR4_8 CEIL3_5 160 0 0"], 64, PAST),
-    (&[b"set-side 2 0 0 SHORT SHORT STARTAN3 0"], 64, ""),
-];
-
-#[test]
-fn a_wall_shows_rows_that_a_texture_lacks(rt: HostRuntime) -> Result<(), Fail> {
-    for &(further, height, warnings) in SHOWN {
-        let found = beyond(
-            rt.alloc(),
-            further,
-            &[CEILING, FLOOR],
-            &[WALL, rows(height)],
-        )?;
-        same(
-            &rt,
-            &(further, height, found.as_str()),
-            &(further, height, warnings),
-        );
-    }
-    Ok(())
-}
-
-// Two rooms side by side, 0 and 1, with line 8 between them from (128,0) to (128,128): its right side 8 faces room 0,
-// its left side 9 room 1. Each row gives the floor and the ceiling of room 1, those of room 0 being 0 and 128, the
-// flags of the line, the rows of the texture on both of its sides above and below, and whether there is a warning.
-#[rattlefmt::skip]
-const BETWEEN: &[(&[u8], &[u8], i16, bool)] = &[
-    (b"set-sector 1 0 128 FLOOR4_8 CEIL3_5 160 0 0", b"4", 8, false),
-    (b"set-sector 1 0 64 FLOOR4_8 CEIL3_5 160 0 0", b"4", 64, false),
-    (b"set-sector 1 0 64 FLOOR4_8 CEIL3_5 160 0 0", b"4", 63, true),
-    (b"set-sector 1 0 96 FLOOR4_8 CEIL3_5 160 0 0", b"4", 64, false),
-    (b"set-sector 1 0 96 FLOOR4_8 CEIL3_5 160 0 0", b"4", 31, true),
-    (b"set-sector 1 0 96 FLOOR4_8 CEIL3_5 160 0 0", b"12", 32, false),
-    (b"set-sector 1 0 96 FLOOR4_8 CEIL3_5 160 0 0", b"12", 31, true),
-    (b"set-sector 1 24 128 FLOOR4_8 CEIL3_5 160 0 0", b"4", 24, false),
-    (b"set-sector 1 25 128 FLOOR4_8 CEIL3_5 160 0 0", b"4", 24, true),
-    (b"set-sector 1 24 128 FLOOR4_8 CEIL3_5 160 0 0", b"20", 127, true),
-    (b"set-sector 1 24 128 FLOOR4_8 CEIL3_5 160 0 0", b"20", 128, false),
-    (b"set-sector 1 0 200 FLOOR4_8 CEIL3_5 160 0 0", b"4", 72, false),
-    (b"set-sector 1 0 200 FLOOR4_8 CEIL3_5 160 0 0", b"4", 71, true),
-];
-
-// The room, a second one beside it, and a line between them with the flags.
-fn between(alloc: Global, sector: &[u8], flags: &[u8], height: i16) -> Result<String, Fail> {
-    let mut maps = drawn(alloc, &[ROOM])?;
-    draw(
-        &mut maps,
-        &[
-            b"room 256 0 384 128 0 128 FLOOR4_8 CEIL3_5 STARTAN3 160",
-            b"side 0 0 SHORT SHORT - 0",
-            b"side 0 0 SHORT SHORT - 1",
-            sector,
-        ],
-    )?;
-    let mut line = Vec::from_slice(alloc, b"line 2 3 ")?;
-    line.extend_from_slice(flags)?;
-    line.extend_from_slice(b" 0 0 8 9")?;
-    draw(&mut maps, &[line.as_slice()])?;
-    let mut text = String::new(alloc);
-    for warning in &lint_graphics(
-        alloc,
-        maps.current(),
-        &[CEILING, FLOOR],
-        &[WALL, rows(height)],
-    )? {
-        writeln!(text, "{warning}")?;
-    }
-    Ok(text)
-}
-
-#[test]
-fn an_upper_or_lower_wall_shows_rows_that_a_texture_lacks(rt: HostRuntime) -> Result<(), Fail> {
-    for &(sector, flags, height, is_short) in BETWEEN {
-        let found = between(rt.alloc(), sector, flags, height)?;
-        let wanted = if is_short {
-            "texture-short 8 at (128,128) (128,0)\n"
-        } else {
-            ""
-        };
-        same(
-            &rt,
-            &(sector, flags, height, found.as_str()),
-            &(sector, flags, height, wanted),
-        );
-    }
     Ok(())
 }

@@ -80,8 +80,8 @@ const BESIDE: &[(&[&str], u8, &[u8], &[u8])] = &[
     (
         &["leveled", "lint", "names.lv", "--iwad", "names.wad"],
         3,
-        b"MAP01 vertex 4 unused\nMAP01 flat-unknown 0\n\
-          MAP02 texture-unknown 2 at (256,256) (256,0)\nfindings 3\n",
+        b"MAP01 vertex 4 unused\nMAP01 flat-unknown 0 ceiling CEIL3_5\n\
+          MAP02 texture-unknown 2 at (256,256) (256,0) right middle STARTAN2\nfindings 3\n",
         b"",
     ),
     (
@@ -96,8 +96,10 @@ const BESIDE: &[(&[&str], u8, &[u8], &[u8])] = &[
             "texture-short",
         ],
         3,
-        b"MAP01 texture-short 0 at (0,0) (0,256)\nMAP01 texture-short 1 at (0,256) (256,256)\n\
-          MAP01 texture-short 2 at (256,256) (256,0)\nMAP01 texture-short 3 at (256,0) (0,0)\nfindings 4\n",
+        b"MAP01 texture-short 0 at (0,0) (0,256) right middle STARTAN3\n\
+          MAP01 texture-short 1 at (0,256) (256,256) right middle STARTAN3\n\
+          MAP01 texture-short 2 at (256,256) (256,0) right middle STARTAN3\n\
+          MAP01 texture-short 3 at (256,0) (0,0) right middle STARTAN3\nfindings 4\n",
         b"",
     ),
     (
@@ -230,6 +232,7 @@ const RULES: &[&str] = &[
     "texture-hidden", "sector-inside-out", "line-crossed", "thing-outside", "door-without-back",
     "donut-without-back", "too-many-scrolls", "teleport-nowhere", "no-exit", "key-missing",
     "too-many-neighbours", "thing-stuck", "flat-unknown", "texture-unknown", "texture-short",
+    "texture-patched",
 ];
 
 const NO_RULES: &[&str] = &[

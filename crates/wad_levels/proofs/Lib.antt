@@ -4,3 +4,4 @@ pub mod RunLemmas
 pub mod DrawnLemmas
 pub mod LengthLemmas
 pub mod GraphicLemmas
+pub mod PatchLemmas

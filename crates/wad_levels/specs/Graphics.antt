@@ -1,29 +1,25 @@
 -- A WAD's flats and textures (docs/FORMAT.md, "Flats and textures").
-use Rattle.std.specs.Prelude.{◌≡◌, ℕ, zero, suc, ◌+◌, ◌*◌, Bool, true, false, not, ◌&&◌, ◌||◌, ◌==◌, nat_lt, nat_le, List, [], ◌∷◌, ◌++◌, length, map, filter, Option, Some, codes}
-use Rattle.std.specs.Char.{to_ascii_uppercase}
+use Rattle.std.specs.Prelude.{◌≡◌, ℕ, ℤ, zero, suc, ◌+◌, ◌*◌, Bool, false, not, ◌&&◌, ◌||◌, ◌==◌, nat_lt, nat_le, List, [], ◌∷◌, ◌++◌, length, map, filter, Option, Some, codes}
 use Rattle.std.specs.List.{list_all, range_with_len}
-use Rattle.std.specs.Option.{option_map_or, option_or}
+use Rattle.std.specs.Option.{option_or}
 use Rattle.lump_records.specs.Fields.{signed_at}
-use Rattle.lump_records.specs.Names.{name_of, name_text}
 use Rattle.lump_records.specs.Records.{name_at}
 use Rattle.lump_records.specs.declared.records.Name8.{Name8}
+use Rattle.lump_textures.specs.Patched.{is_patched}
 use Rattle.lump_textures.specs.declared.texture.Texture.{Texture}
 use Rattle.wad_levels.specs.declared.error.ReadError.{ReadError}
 use Rattle.wad_levels.specs.declared.error.ReadError.TheVariants.{LumpOutside, TextureLump, OutOfMemory}
 use Rattle.wad_levels.specs.declared.graphics.Graphics.{Graphics}
-use Rattle.wad_levels.specs.Levels.{marker}
 use Rattle.wad_levels.specs.Listing.{listing_refusal}
-use Rattle.wad_file.specs.Directory.{entry, entry_has_name, first_failed, is_outside, lump_count, standing}
+use Rattle.wad_levels.specs.Patches.{count_at, patch_widths, patches_of}
+pub use Rattle.wad_levels.specs.NamedLumps.{capital_name, lump_of_name, stands_inside}
+use Rattle.wad_file.specs.Directory.{entry, entry_has_name, first_failed, lump_count}
 use Rattle.wad_file.specs.Fields.{long_at}
 
 -- the names of flats, and textures
 pub record GraphicNames : Type 0 where
   pub flats : List Name8
   pub textures : List Texture
-
--- a name in capitals, with NUL behind its text
-abbrev pub capital_name : Name8 → Name8
-capital_name name = record { bytes = map to_ascii_uppercase (name_of (name_text name)).bytes }
 
 -- ---- flats
 
@@ -67,31 +63,25 @@ are_textures lump =
     || (nat_le 4 (length lump) && nat_le (4 * texture_count lump + 4) (length lump)
     && list_all (is_texture_inside lump) (range_with_len 0 (texture_count lump)))
 
--- the texture that stands at a place: its name in capitals, and its height
-abbrev pub texture_from : List ℕ → ℕ → Texture
-texture_from lump at = record {
+-- the texture that stands at a place: its name in capitals, its height, and whether more than one patch covers some
+-- column of it
+abbrev pub texture_from : List ℤ → List ℕ → ℕ → Texture
+texture_from widths lump at = record {
   name = capital_name (name_at at lump);
   height = signed_at (at + 14) lump;
+  is_patched = is_patched (count_at (at + 12) lump) (patches_of widths lump at);
 }
 
 -- the n-th texture
-abbrev pub nth_texture : List ℕ → ℕ → Texture
-nth_texture lump n = texture_from lump (texture_at lump n)
+abbrev pub nth_texture : List ℤ → List ℕ → ℕ → Texture
+nth_texture widths lump n = texture_from widths lump (texture_at lump n)
 
 -- the lump's textures
-abbrev pub textures_of : List ℕ → List Texture
-textures_of lump = map (nth_texture lump) (range_with_len 0 (texture_count lump))
+abbrev pub textures_of : List ℤ → List ℕ → List Texture
+textures_of widths lump =
+    map (nth_texture widths lump) (range_with_len 0 (texture_count lump))
 
 -- ---- the WAD
-
--- the last lump of the name, if there is one, stands in the file
-abbrev pub stands_inside : List ℕ → List ℕ → Bool
-stands_inside wad name =
-    option_map_or (λ k. not (is_outside wad (entry wad k))) (marker wad name) true
-
--- the bytes of the last lump of the name, or none
-abbrev pub lump_of_name : List ℕ → List ℕ → List ℕ
-lump_of_name wad name = option_map_or (standing wad) (marker wad name) []
 
 -- the names of the flats, and the textures of TEXTURE1 and behind them those of TEXTURE2
 abbrev pub graphics : List ℕ → GraphicNames
@@ -99,8 +89,8 @@ graphics wad =
     record {
       flats = flat_names wad;
       textures =
-          textures_of (lump_of_name wad (codes "TEXTURE1"))
-          ++ textures_of (lump_of_name wad (codes "TEXTURE2"));
+          textures_of (patch_widths wad) (lump_of_name wad (codes "TEXTURE1"))
+          ++ textures_of (patch_widths wad) (lump_of_name wad (codes "TEXTURE2"));
     }
 
 -- what a `Graphics` holds

@@ -7,4 +7,6 @@ pub mod Called
 pub mod Drawn
 pub mod Lengths
 pub mod Texts
+pub mod NamedLumps
+pub mod Patches
 pub mod Graphics

@@ -1,15 +1,18 @@
 //! A WAD's flats and textures.
-ghost use Rattle.std.specs.Prelude.{◌≡◌, ◌+◌, ◌*◌, ◌≤◌, ◌<◌, ◌++◌, true, length, map, IfOk, IsOkUnless, IsTrue, MatchResult, None, OnOk, Option};
-ghost use Rattle.std.specs.Char.{to_ascii_uppercase};
+ghost use Rattle.std.specs.Prelude.{◌≡◌, ◌+◌, ◌*◌, ◌≤◌, ◌<◌, ◌++◌, true, length, IfOk, IsOkUnless, IsTrue, MatchResult, None, OnOk};
 ghost use Rattle.std.specs.List.{list_all, range_with_len};
 ghost use Rattle.wad_file.specs.Directory.{lump_count};
-ghost use Rattle.wad_levels.specs.Graphics.{RefusesGraphics, are_flats_open, are_textures, capital_name, flat_names, graphics, graphics_refusal, graphics_view, is_texture_inside, lump_of_name, stands_inside, texture_count, texture_from, textures_of};
+ghost use Rattle.wad_levels.specs.Graphics.{RefusesGraphics, are_flats_open, are_textures, flat_names, graphics, graphics_refusal, graphics_view, is_texture_inside, texture_count, texture_from, textures_of};
+ghost use Rattle.wad_levels.specs.Patches.{patch_widths};
 
 use crate::error::ReadError;
 use crate::listing::read_wad;
+use crate::named_lumps::{capital_name, lump_of_name, stands_inside};
+use crate::patch_widths::patch_widths;
+use crate::patches::{count_at, patches_of};
 use byteorder::{ByteOrder, LittleEndian};
 use lump_records::Name8;
-use lump_textures::Texture;
+use lump_textures::{Texture, is_patched};
 use std::alloc::Global;
 use wad_file::{Wad, long_at, name_at};
 
@@ -26,16 +29,6 @@ impl Drop for Graphics {
             flats: _flats,
             textures: _textures,
         } = self;
-    }
-}
-
-// The name in capitals, padded with NUL.
-fn capital_name(name: Name8) -> Name8
-    ensures { result ≡ capital_name name }
-{
-    let padded = Name8::from_text(name.text());
-    Name8 {
-        bytes: padded.bytes.map(|byte| byte.to_ascii_uppercase()),
     }
 }
 
@@ -63,26 +56,6 @@ fn flats_in(alloc: Global, wad: &Wad<'_>) -> Result<Vec<Name8>, ReadError>
         among_flats = flats_behind(wad, k, among_flats);
     }
     Ok(names)
-}
-
-// Whether the last lump with the name, if there is one, lies inside the file.
-fn stands_inside(wad: &Wad<'_>, name: &[u8]) -> bool
-    ensures { result ≡ stands_inside wad.now name.now }
-{
-    match wad.last_named(name) {
-        Some(k) => !wad.is_outside(wad.entry(k)),
-        None => true,
-    }
-}
-
-// The bytes of the last lump with the name, or none.
-fn lump_of_name<'a>(wad: &Wad<'a>, name: &[u8]) -> &'a [u8]
-    ensures { result.now ≡ lump_of_name wad.now name.now }
-{
-    match wad.last_named(name) {
-        Some(k) => wad.standing(k),
-        None => &[],
-    }
 }
 
 // How many textures the lump lists.
@@ -125,22 +98,30 @@ fn are_textures(lump: &[u8]) -> bool
     4 * u64::from(texture_count(lump)) + 4 <= lump.len() as u64 && are_all_inside(lump)
 }
 
-// The texture that stands at a place of the lump.
-fn texture_from(lump: &[u8], at: usize) -> Texture
+// The texture that stands at a place of the lump; `widths` says how many columns each patch has.
+fn texture_from(alloc: Global, widths: &[i16], lump: &[u8], at: usize) -> Result<Texture, ReadError>
     requires { at + 22 ≤ length lump.now }
-    ensures { result ≡ texture_from lump.now at }
+    ensures texture { IfOk result (λ t. t ≡ texture_from widths.now lump.now at) }
+    ensures memory { IsOkUnless result ReadError.OutOfMemory }
 {
-    Texture {
+    let patches = patches_of(alloc, widths, lump, at)?;
+    Ok(Texture {
         name: capital_name(name_at(lump, at)),
         height: LittleEndian::read_i16(&lump[at + 14..]),
-    }
+        is_patched: is_patched(alloc, count_at(lump, at + 12), &patches)?,
+    })
 }
 
 // Appends the lump's textures to the list.
-fn add_textures(lump: &[u8], textures: &mut Vec<Texture>) -> Result<(), ReadError>
+fn add_textures(
+    alloc: Global,
+    widths: &[i16],
+    lump: &[u8],
+    textures: &mut Vec<Texture>,
+) -> Result<(), ReadError>
     requires { IsTrue (are_textures lump.now) }
     ensures added { OnOk result (textures.new.items
-        ≡ textures.old.items ++ textures_of lump.now) }
+        ≡ textures.old.items ++ textures_of widths.now lump.now) }
     ensures memory { IsOkUnless result ReadError.OutOfMemory }
 {
     if lump.is_empty() {
@@ -148,7 +129,7 @@ fn add_textures(lump: &[u8], textures: &mut Vec<Texture>) -> Result<(), ReadErro
     }
     for n in 0..texture_count(lump) {
         let at = long_at(lump, 4 * n as usize + 4) as usize;
-        textures.push(texture_from(lump, at))?;
+        textures.push(texture_from(alloc, widths, lump, at)?)?;
     }
     Ok(())
 }
@@ -164,13 +145,15 @@ fn graphics_of(
     requires second { IsTrue (are_textures second.now) }
     ensures flats { IfOk result (λ g. g.flats.items ≡ flat_names wad.now) }
     ensures textures { IfOk result
-        (λ g. g.textures.items ≡ textures_of first.now ++ textures_of second.now) }
+        (λ g. g.textures.items ≡ textures_of (patch_widths wad.now) first.now
+        ++ textures_of (patch_widths wad.now) second.now) }
     ensures memory { IsOkUnless result ReadError.OutOfMemory }
 {
     let flats = flats_in(alloc, wad)?;
+    let widths = patch_widths(alloc, wad)?;
     let mut textures = Vec::new(alloc);
-    add_textures(first, &mut textures)?;
-    add_textures(second, &mut textures)?;
+    add_textures(alloc, &widths, first, &mut textures)?;
+    add_textures(alloc, &widths, second, &mut textures)?;
     Ok(Graphics { flats, textures })
 }
 

@@ -11,7 +11,10 @@ mod laws;
 mod level;
 mod listing;
 mod lumps;
+mod named_lumps;
 mod needs;
+mod patch_widths;
+mod patches;
 
 pub use called::{is_asked_of, last_called, last_of_each};
 pub use drawn::{Drawn, level_lump, read_drawn, read_lists};

@@ -12,6 +12,6 @@ texture_from-requires c =
 
 pub loop-n-preserved : goal.loop-n-preserved
 loop-n-preserved c =
-    let made = c.texture_from.ensures ∙ ap (texture_from c.args.lump.now) c.long_at-at.ensures in
+    let made = c.in_ok-texture_from.ensures.texture ∙ ap (texture_from c.args.widths.now c.args.lump.now) c.long_at-at.ensures in
     c.in_ok-push.ensures.items ∙ ap (λ (t : Texture). c.loop-n.textures.items ++ t ∷ []) made
-    ∙ named_more (nth_texture c.args.lump.now) c.loop-n.n c.args.textures.now.items c.loop-n.textures.items c.loop-n.invariant
+    ∙ named_more (nth_texture c.args.widths.now c.args.lump.now) c.loop-n.n c.args.textures.now.items c.loop-n.textures.items c.loop-n.invariant
