@@ -60,13 +60,28 @@ AdvancesOver facts verbose (l ∷ ls) old refusal new =
 abbrev pub Advances : {S : Type 0} → Ghosts S → Bool → Progress S → Option ℕ → Progress S → Type 0
 Advances facts verbose old refusal new = AdvancesOver facts verbose old.lines old refusal new
 
+-- the same with another canvas
+abbrev pub on_canvas : {S : Type 0} → S → Progress S → Progress S
+on_canvas canvas p = record {
+  sketch = record { canvas = canvas; names = p.sketch.names; written = p.sketch.written };
+  lines = p.lines;
+  turns = p.turns;
+}
+
+-- the same after the canvas has begun the line: where answers are written, each command is put by
+-- itself, and else what waits may be put first
+abbrev pub Steps : {S : Type 0} → Ghosts S → Bool → Progress S → Option ℕ → Progress S → Type 0
+Steps {S = S} facts verbose old refusal new =
+    (canvas : S) × facts.begins old.sketch.canvas verbose canvas
+    × Advances facts verbose (on_canvas canvas old) refusal new
+
 -- ---- A script
 
 -- so many lines were drawn and turns ended, one after the other, and none was refused
 abbrev pub ComesTo : {S : Type 0} → Ghosts S → Bool → Progress S → ℕ → Progress S → Type 0
 ComesTo facts verbose first zero new = new ≡ first
 ComesTo {S = S} facts verbose first (suc n) new =
-    (mid : Progress S) × ComesTo facts verbose first n mid × Advances facts verbose mid None new
+    (mid : Progress S) × ComesTo facts verbose first n mid × Steps facts verbose mid None new
 
 -- no line is to come, and no block is open
 abbrev pub IsOver : {S : Type 0} → Progress S → Type 0
@@ -98,14 +113,15 @@ at_first canvas written lines = record {
 -- after so many lines one was refused with this code, or the limit was met, and it is 48
 abbrev pub Refuses : {S : Type 0} → Ghosts S → Bool → ℕ → ℕ → Progress S → ℕ → Progress S → Type 0
 Refuses facts verbose limit n old code new =
-    ((n < limit) × Advances facts verbose old (Some code) new)
+    ((n < limit) × Steps facts verbose old (Some code) new)
     ⊎ ((n ≡ limit) × (code ≡ 48) × (new ≡ old))
 
 -- ---- How a call ended
 
--- the sketch has this canvas, and its writer holds this
-abbrev pub Has : {S : Type 0} → Sketch S → S → Option (List ℕ) → Type 0
-Has sketch canvas written = (canvas ≡ sketch.canvas) × (written ≡ sketch.written)
+-- what waited on the canvas of the sketch was put, and its writer holds this
+abbrev pub Leaves : {S : Type 0} → Ghosts S → Sketch S → S → Option (List ℕ) → Type 0
+Leaves facts sketch canvas written =
+    facts.settles sketch.canvas canvas × (written ≡ sketch.written)
 
 -- all lines were drawn
 pub record IsAllDrawn {S : Type 0} (facts : Ghosts S) (verbose : Bool) (first : Progress S)
@@ -115,9 +131,10 @@ pub record IsAllDrawn {S : Type 0} (facts : Ghosts S) (verbose : Bool) (first : 
   pub within : count ≤ limit
   pub reached : ComesTo facts verbose first count last
   pub over : IsOver last
-  pub has : Has last.sketch canvas written
+  pub leaves : Leaves facts last.sketch canvas written
 
--- the lines before one were drawn, and the one at the stop's place was refused with its code
+-- The lines before one were drawn, and the one at the stop's place was refused with its code. With 30
+-- it may be the first of those that were to be put together.
 pub record IsStoppedAt {S : Type 0} (facts : Ghosts S) (verbose : Bool) (first : Progress S)
     (limit : ℕ) (stop : Stop) (canvas : S) (written : Option (List ℕ)) : Type 0 where
   pub count : ℕ
@@ -126,15 +143,19 @@ pub record IsStoppedAt {S : Type 0} (facts : Ghosts S) (verbose : Bool) (first :
   pub reached : ComesTo facts verbose first count before
   pub at_place : IsAtPlace before.lines before.turns stop.place
   pub refused : Refuses facts verbose limit count before stop.code after
-  pub has : Has after.sketch canvas written
+  pub leaves : Leaves facts after.sketch canvas written
 
--- this is the canvas after the lines that were drawn before memory ran out or the writer failed
+-- this is the canvas after the lines that were drawn before memory ran out or the writer failed; what
+-- waited was put then, or is lost
 pub record IsCutOff {S : Type 0} (facts : Ghosts S) (verbose : Bool) (first : Progress S)
     (canvas : S) : Type 0 where
   pub count : ℕ
   pub last : Progress S
   pub reached : ComesTo facts verbose first count last
-  pub has : canvas ≡ last.sketch.canvas
+  pub left : S
+  pub settled : (left ≡ last.sketch.canvas) ⊎ ((begun : S)
+      × facts.begins last.sketch.canvas verbose begun × facts.settles begun left)
+  pub leaves : facts.settles left canvas ⊎ facts.loses left canvas
 
 -- how a call ended that began before the first line: all were drawn; or those before a refused one;
 -- or those before memory ran out or the writer failed
@@ -155,6 +176,10 @@ pub record IsOutOfOrder {S : Type 0} (place : ℕ) (result : Result (Option Stop
   pub refused : result ≡ Ok (Some (record { place = place; code = 47 }))
   pub canvas : canvas-new ≡ canvas-old
   pub written : Keeps writer-old writer-new
+
+-- no command waits on a canvas
+abbrev pub NothingWaits : {S : Type 0} → Ghosts S → S → Type 0
+NothingWaits {S = S} facts canvas = (last : S) → ¬ facts.loses canvas last
 
 -- how a call ended that should draw these lines
 abbrev pub IsScriptDrawn : {S : Type 0} → Ghosts S → Bool → List (ℕ × List ℕ)

@@ -1,5 +1,6 @@
 pub mod Blocks
 pub mod Canvases
+pub mod Drawings
 pub mod Drawn
 pub mod Errors
 pub mod Given
@@ -9,3 +10,4 @@ pub mod Places
 pub mod Refused
 pub mod Shaped
 pub mod Turns
+pub mod Waiting
