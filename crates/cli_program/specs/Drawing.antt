@@ -9,7 +9,8 @@ use Rattle.map_script.specs.Views.{seen}
 use Rattle.map_script.specs.declared.script.ScriptLine.{ScriptLine}
 use Rattle.store_project.specs.States.{State}
 use Rattle.store_project.specs.declared.error.ProjectError.{ProjectError}
-use Rattle.run_script.specs.Canvases.{Drawing, draft_canvas, first_drawing, project_canvas}
+use Rattle.run_script.specs.Canvases.{draft_canvas, project_canvas}
+use Rattle.run_script.specs.Waiting.{Drawing, first_drawing}
 use Rattle.run_script.specs.Drawn.{IsScriptDrawn}
 use Rattle.run_script.specs.Refused.{TellsStop}
 use Rattle.run_script.specs.declared.canvas.Canvas as canvas

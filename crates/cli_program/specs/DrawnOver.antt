@@ -3,7 +3,8 @@ use Rattle.std.specs.Prelude.{◌≡◌, ◌⊎◌, ℕ, Bool, List, Option, Res
 use Rattle.std.specs.Io.KnownBytes.{Keeps}
 use Rattle.store_disk.specs.declared.disk.Disk.{Ghosts}
 use Rattle.store_project.specs.States.{State}
-use Rattle.run_script.specs.Canvases.{Drawing, first_drawing, project_canvas}
+use Rattle.run_script.specs.Canvases.{project_canvas}
+use Rattle.run_script.specs.Waiting.{Drawing, first_drawing}
 use Rattle.run_edit.specs.Recovery.{IsOnlyRead}
 use Rattle.cli_program.specs.Drawing.{IsDrawnOnto}
 use Rattle.cli_program.specs.Sources.{IsOpenedFrom, NotOpened}

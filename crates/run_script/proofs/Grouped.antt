@@ -4,7 +4,8 @@ use Rattle.std.specs.Prelude.{IfSome, if◌then◌else◌, suc}
 use Rattle.std.specs.Io.KnownBytes.{Keeps}
 use Rattle.std.proofs.KnownBytes.{Keeps-refl, Keeps-trans}
 use Rattle.std.proofs.lemmas.Bool.{true≢false}
-use Rattle.run_script.specs.Drawn.{Advances, ComesTo, EndsFrom, IsAtPlace, IsCutOff, IsStoppedAt, NothingWaits, Progress, on_canvas}
+use Rattle.run_script.specs.Canvases.{NothingWaits}
+use Rattle.run_script.specs.Drawn.{Advances, ComesTo, EndsFrom, IsAtPlace, IsCutOff, IsStoppedAt, Progress, on_canvas}
 use Rattle.run_script.specs.declared.drawing.Stop.{Stop}
 use Rattle.run_script.specs.declared.canvas.Canvas.{Ghosts}
 use Rattle.run_script.proofs.Losing.{Alone, LossTold, Lost, LostIn, Since, StepOf, ToldAll, Within, advance_in, advance_lost}
@@ -38,7 +39,8 @@ module _ {S : Type 0} (facts : Ghosts S) (since : Since facts) (within : Within 
     reached = stop.reached;
     at_place = stop.at_place;
     refused = stop.refused;
-    leaves = (again stop.after.sketch.canvas other last stop.leaves.0 settled, stop.leaves.1);
+    put = again stop.after.sketch.canvas other last stop.put settled;
+    has = stop.has;
   }
 
   before_lost : (verbose : Bool) (start : Progress S) (limit many place : ℕ) (old began last : S) (u w : Option (List ℕ)) → facts.begins old verbose began
@@ -69,7 +71,8 @@ module _ {S : Type 0} (facts : Ghosts S) (since : Since facts) (within : Within 
         reached = reached;
         at_place = at;
         refused = inl (under, (began, begins, drawn));
-        leaves = (subst (λ (s : S). facts.settles s last) (sym canvas) (lost_settled new.sketch.canvas last lost), sym written);
+        put = subst (λ (s : S). facts.settles s last) (sym canvas) (lost_settled new.sketch.canvas last lost);
+        has = sym written;
       }
 
       go : (verbose ≡ false → Keeps mid.sketch.written new.sketch.written)

@@ -12,8 +12,8 @@ use Rattle.store_project.specs.Stands.{StandsForEither}
 use Rattle.store_project.specs.States.{IsProjectKept, State}
 use Rattle.store_project.specs.declared.error.ProjectError.{ProjectError}
 use Rattle.store_project.specs.declared.error.ProjectError.TheVariants.{Device, OutOfMemory, Reopen, GenerationsSpent, Refused, Damaged, Blank, NotAProject, NotEmpty, BadGeometry}
-use Rattle.run_script.specs.Canvases.{AreFlagsKept, ChangesProject, Drawing, IsApplied, IsStaged, IsUnchanged, Loses, Settles, Waits, drawn_maps, maps_with}
-use Rattle.run_script.specs.Waiting.{lost_unchanged}
+use Rattle.run_script.specs.Waiting.{AreFlagsKept, ChangesProject, Drawing, IsApplied, IsStaged, IsUnchanged, Loses, Settles, AreWaiting, drawn_maps, maps_behind}
+use Rattle.run_script.specs.LossLaws.{lost_unchanged}
 
 not_refused : {T E : Type 0} (x : T) (e : E) → Ok x ≡ Err e → ⊥
 not_refused x e same = cc
@@ -36,11 +36,11 @@ module _ {D : Type 0} (facts : Ghosts D) where
   is_device NotEmpty old new never ready = absurd never
   is_device BadGeometry old new never ready = absurd never
 
-  can_in : (d : Drawing D) (g : GroupState) (staged : List Staged) → d.group ≡ Some g → Waits d staged → CanPut d.project g staged
+  can_in : (d : Drawing D) (g : GroupState) (staged : List Staged) → d.group ≡ Some g → AreWaiting d staged → CanPut d.project g staged
   can_in d g staged some waits =
       subst (λ (o : Option GroupState). MatchOption o (staged ≡ []) (λ g. CanPut d.project g staged)) some waits
 
-  waits_in : (d : Drawing D) (g : GroupState) (staged : List Staged) → d.group ≡ Some g → CanPut d.project g staged → Waits d staged
+  waits_in : (d : Drawing D) (g : GroupState) (staged : List Staged) → d.group ≡ Some g → CanPut d.project g staged → AreWaiting d staged
   waits_in d g staged some can =
       subst (λ (o : Option GroupState). MatchOption o (staged ≡ []) (λ g. CanPut d.project g staged)) (sym some) can
 
@@ -72,8 +72,8 @@ module _ {D : Type 0} (facts : Ghosts D) where
       → CanPut old.project first [] → EndsStage old.project (Ok (Some n)) first g line → CanPut old.project g (record { line = line; number = n } ∷ [])
       → new.project ≡ old.project → new.group ≡ Some g → new.holds_earlier ≡ false → AreFlagsKept old new → IsStaged old line n new
   first_staged old new first g line n together ready none began (room, accepts) can project some earlier flags =
-      let before : drawn_maps old ≡ project_of old.project.maps = ap (λ (o : Option GroupState). maps_with old.project o) none in
-      let after : drawn_maps new ≡ project_of g.maps = ap (λ (o : Option GroupState). maps_with new.project o) some in record {
+      let before : drawn_maps old ≡ project_of old.project.maps = ap (λ (o : Option GroupState). maps_behind old.project o) none in
+      let after : drawn_maps new ≡ project_of g.maps = ap (λ (o : Option GroupState). maps_behind new.project o) some in record {
         together = together;
         ready = ready;
         project = project;
@@ -108,7 +108,7 @@ module _ {D : Type 0} (facts : Ghosts D) where
   put_on old mid new (Some g) is same settled = λ staged can.
       let (h, some) = some_on old.group mid.group g is same.both in
       let put = subst (λ (o : Option GroupState). MatchOption o (new.project ≡ mid.project)
-          (λ g. (staged : List Staged) → CanPut mid.project g staged → PutsGroup facts mid.project staged (Ok tt) new.project)) some settled.put in
+      (λ g. (staged : List Staged) → CanPut mid.project g staged → PutsGroup facts mid.project staged (Ok tt) new.project)) some settled.put in
       subst (λ (s : State D). PutsGroup facts s staged (Ok tt) new.project) same.project
       (put staged (can_in mid h staged some (same.waits staged (waits_in old g staged is can))))
 
@@ -122,17 +122,12 @@ module _ {D : Type 0} (facts : Ghosts D) where
   pub alone_behind : (old mid new : Drawing D) (line : List ℕ) (outcome : Result ℕ ℕ) → IsUnchanged old mid
       → IsApplied facts mid line outcome new ⊎ ((outcome ≡ Err 30) × Loses facts mid new) → ChangesProject facts old line outcome new
   alone_behind old mid new line outcome same (inl applied) = inr (inl (record {
-        mid = applied.mid;
-        settled = unchanged_settled old mid applied.mid same applied.settled;
-        answer = applied.answer;
-        applied = applied.applied;
-        is = applied.is;
-        none = applied.none;
-        flags = record { alone = applied.flags.alone ∙ same.flags.alone; lost = applied.flags.lost ∙ same.flags.lost };
-      }))
+    mid = applied.mid;
+    settled = unchanged_settled old mid applied.mid same applied.settled;
+    answer = applied.answer;
+    applied = applied.applied;
+    is = applied.is;
+    none = applied.none;
+    flags = record { alone = applied.flags.alone ∙ same.flags.alone; lost = applied.flags.lost ∙ same.flags.lost };
+  }))
   alone_behind old mid new line outcome same (inr (is, gone)) = inr (inr (inl (is, lost_unchanged facts old mid new same gone)))
-
-  pub alone_first : (old new : Drawing D) (line : List ℕ) (outcome : Result ℕ ℕ)
-      → IsApplied facts old line outcome new ⊎ ((outcome ≡ Err 30) × Loses facts old new) → ChangesProject facts old line outcome new
-  alone_first old new line outcome (inl applied) = inr (inl applied)
-  alone_first old new line outcome (inr gone) = inr (inr (inl gone))

@@ -1,7 +1,7 @@
 -- What a contract sees of the fields of a project onto which a script is drawn, and what they keep.
 use Rattle.std.specs.Prelude.{◌≡◌, false, IfSome}
 use Rattle.store_project.specs.Groups.{IsGroupFor}
-use Rattle.run_script.specs.Canvases.{Drawing}
+use Rattle.run_script.specs.Waiting.{Drawing}
 use Rattle.run_script.specs.declared.project_canvas.ProjectCanvas.TheInside.{Inside}
 
 -- what a contract sees

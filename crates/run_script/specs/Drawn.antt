@@ -63,7 +63,7 @@ Advances facts verbose old refusal new = AdvancesOver facts verbose old.lines ol
 -- the same with another canvas
 abbrev pub on_canvas : {S : Type 0} → S → Progress S → Progress S
 on_canvas canvas p = record {
-  sketch = record { canvas = canvas; names = p.sketch.names; written = p.sketch.written };
+  sketch = sketch_of canvas p.sketch.names p.sketch.written;
   lines = p.lines;
   turns = p.turns;
 }
@@ -98,14 +98,10 @@ IsAtPlace (l ∷ ls) turns place = place ≡ l.0
 abbrev pub line_limit : List (ℕ × List ℕ) → ℕ
 line_limit lines = 1000000 + length lines
 
--- the sketch before the first line: no name yet
-abbrev pub first_sketch : {S : Type 0} → S → Option (List ℕ) → Sketch S
-first_sketch canvas written = sketch_of canvas first_scope written
-
--- before the first of these lines
+-- before the first of these lines: no name yet
 abbrev pub at_first : {S : Type 0} → S → Option (List ℕ) → List (ℕ × List ℕ) → Progress S
 at_first canvas written lines = record {
-  sketch = first_sketch canvas written;
+  sketch = sketch_of canvas first_scope written;
   lines = with_places lines;
   turns = [];
 }
@@ -118,12 +114,7 @@ Refuses facts verbose limit n old code new =
 
 -- ---- How a call ended
 
--- what waited on the canvas of the sketch was put, and its writer holds this
-abbrev pub Leaves : {S : Type 0} → Ghosts S → Sketch S → S → Option (List ℕ) → Type 0
-Leaves facts sketch canvas written =
-    facts.settles sketch.canvas canvas × (written ≡ sketch.written)
-
--- all lines were drawn
+-- all lines were drawn, and what waited was put
 pub record IsAllDrawn {S : Type 0} (facts : Ghosts S) (verbose : Bool) (first : Progress S)
     (limit : ℕ) (canvas : S) (written : Option (List ℕ)) : Type 0 where
   pub count : ℕ
@@ -131,7 +122,8 @@ pub record IsAllDrawn {S : Type 0} (facts : Ghosts S) (verbose : Bool) (first : 
   pub within : count ≤ limit
   pub reached : ComesTo facts verbose first count last
   pub over : IsOver last
-  pub leaves : Leaves facts last.sketch canvas written
+  pub put : facts.settles last.sketch.canvas canvas
+  pub has : written ≡ last.sketch.written
 
 -- The lines before one were drawn, and the one at the stop's place was refused with its code. With 30
 -- it may be the first of those that were to be put together.
@@ -143,7 +135,8 @@ pub record IsStoppedAt {S : Type 0} (facts : Ghosts S) (verbose : Bool) (first :
   pub reached : ComesTo facts verbose first count before
   pub at_place : IsAtPlace before.lines before.turns stop.place
   pub refused : Refuses facts verbose limit count before stop.code after
-  pub leaves : Leaves facts after.sketch canvas written
+  pub put : facts.settles after.sketch.canvas canvas
+  pub has : written ≡ after.sketch.written
 
 -- this is the canvas after the lines that were drawn before memory ran out or the writer failed; what
 -- waited was put then, or is lost
@@ -176,10 +169,6 @@ pub record IsOutOfOrder {S : Type 0} (place : ℕ) (result : Result (Option Stop
   pub refused : result ≡ Ok (Some (record { place = place; code = 47 }))
   pub canvas : canvas-new ≡ canvas-old
   pub written : Keeps writer-old writer-new
-
--- no command waits on a canvas
-abbrev pub NothingWaits : {S : Type 0} → Ghosts S → S → Type 0
-NothingWaits {S = S} facts canvas = (last : S) → ¬ facts.loses canvas last
 
 -- how a call ended that should draw these lines
 abbrev pub IsScriptDrawn : {S : Type 0} → Ghosts S → Bool → List (ℕ × List ℕ)

@@ -5,8 +5,10 @@ pub mod Drawn
 pub mod Errors
 pub mod Given
 pub mod Lines
+pub mod LossLaws
 pub mod Names
 pub mod Places
+pub mod PutLaws
 pub mod Refused
 pub mod Shaped
 pub mod Turns

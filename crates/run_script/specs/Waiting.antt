@@ -1,188 +1,150 @@
--- Commands that wait to be put together, and what becomes of them: the laws of a project's canvas.
-use Rattle.std.proofs.Common.{◌≡◌, ◌∙◌, ◌⊎◌, inl, inr, ℕ, Bool, true, false, List, [], ◌∷◌, ◌++◌, Option, Some, None, Result, Ok, Err, refl, sym, ap, subst, append_assoc}
-use Rattle.std.specs.Prelude.{MatchOption, is_some}
-use Rattle.std.specs.Io.KnownBytes.{Keeps}
-use Rattle.std.proofs.lemmas.Bool.{true≢false}
+-- A project with commands of a script that wait, and how they come to wait, are put and are lost.
+use Rattle.std.specs.Prelude.{◌≡◌, ◌⊎◌, ℕ, Bool, true, false, List, [], ◌∷◌, ◌++◌, Option, None, Some, Result, Ok, Err, MatchOption, is_some}
 use Rattle.store_disk.specs.declared.disk.Disk.{Ghosts}
-use Rattle.store_project.specs.Calls.{PutsGroup}
-use Rattle.store_project.specs.Groups.{CanPut, GroupState, Staged}
+use Rattle.map_tables.specs.Projects.{ProjectMaps, project_of}
+use Rattle.map_commands.specs.ProjectLines.{Accepts}
+use Rattle.store_project.specs.Calls.{Applies, PutsGroup}
+use Rattle.store_project.specs.Groups.{CanPut, GroupState, RefusesStage, Staged}
+use Rattle.store_project.specs.Refusals.{code_of}
 use Rattle.store_project.specs.States.{State}
+use Rattle.store_project.specs.declared.error.ProjectError.{ProjectError}
 use Rattle.store_project.specs.declared.error.ProjectError.TheVariants.{Device}
-use Rattle.run_script.specs.Canvases.{AreFlagsKept, BeginsLine, ChangesProject, Drawing, IsApplied, IsLostWith, IsStaged, IsUnchanged, Loses, Settles, Stages, TellsBehind, Waits, drawn_maps}
+use Rattle.run_edit.specs.Editing.{outcome_in}
 
-none_or_some : {X : Type 0} (o : Option X) (x : X) → o ≡ None → ◌≡◌ {A = Option X} o (Some x) → ⊥
-none_or_some o x none some = absurd (true≢false (sym (ap is_some some) ∙ ap is_some none))
+-- a project onto which a script is drawn: the project on its disk, the group of commands that wait,
+-- if any do, whether each command is put by itself, whether some that wait came with earlier lines
+-- than the one at hand, and whether such were lost by it
+pub record Drawing (D : Type 0) : Type 0 where
+  pub project : State D
+  pub group : Option GroupState
+  pub is_alone : Bool
+  pub holds_earlier : Bool
+  pub has_lost : Bool
 
-module _ {D : Type 0} (facts : Ghosts D) where
-  -- nothing waits, so nothing is lost
-  pub none_lost : (d last : Drawing D) → d.group ≡ None → Loses facts d last → ⊥
-  none_lost d last none lost = none_or_some d.group lost.some.0 none lost.some.1
+-- a project onto which nothing is drawn yet
+abbrev pub first_drawing : {D : Type 0} → State D → Drawing D
+first_drawing project = record {
+  project = project;
+  group = None;
+  is_alone = false;
+  holds_earlier = false;
+  has_lost = false;
+}
 
-  no_group : (d : Drawing D) → d.group ≡ None → Waits d []
-  no_group d none = subst (λ (o : Option GroupState). MatchOption o (◌≡◌ {A = List Staged} [] []) (λ g. CanPut d.project g [])) (sym none) refl
+-- the maps with the commands that wait
+abbrev pub maps_behind : {D : Type 0} → State D → Option GroupState → ProjectMaps
+maps_behind project None = project_of project.maps
+maps_behind project (Some group) = project_of group.maps
 
-  put_from : (a b : State D) (last : Drawing D) (front more all : List Staged) → a ≡ b → all ≡ front ++ more
-      → PutsGroup facts a all (Err Device) last.project → PutsGroup facts b (front ++ more) (Err Device) last.project
-  put_from a b last front more all same is put =
-      subst (λ (s : State D). PutsGroup facts s (front ++ more) (Err Device) last.project) same
-      (subst (λ (xs : List Staged). PutsGroup facts a xs (Err Device) last.project) is put)
+abbrev pub drawn_maps : {D : Type 0} → Drawing D → ProjectMaps
+drawn_maps d = maps_behind d.project d.group
 
-  -- a command that waits behind others is lost with them
-  lost_behind : (old new last : Drawing D) (line : List ℕ) (n : ℕ) (g : GroupState) → old.group ≡ Some g → new.holds_earlier ≡ old.holds_earlier
-      → IsStaged old line n new → Loses facts new last → Loses facts old last
-  lost_behind old new last line n g some earlier staged lost = record {
-    some = (g, some);
-    had = staged.had;
-    put = λ front waits.
-        let (more, put) = lost.put (front ++ record { line = line; number = n } ∷ []) (staged.waits front waits) in
-        (record { line = line; number = n } ∷ more,
-        put_from new.project old.project last front (record { line = line; number = n } ∷ more) _ staged.project (append_assoc front (record { line = line; number = n } ∷ []) more) put);
-    none = lost.none;
-    lost = lost.lost ∙ earlier;
-  }
+-- these commands wait
+abbrev pub AreWaiting : {D : Type 0} → Drawing D → List Staged → Type 0
+AreWaiting d staged = MatchOption d.group (staged ≡ []) (λ g. CanPut d.project g staged)
 
-  -- one that waits alone is lost with those behind it
-  lost_first : (old new last : Drawing D) (line : List ℕ) (n : ℕ) → old.group ≡ None → new.holds_earlier ≡ false
-      → IsStaged old line n new → Loses facts new last → IsLostWith facts old line last
-  lost_first old new last line n none earlier staged lost =
-      let (more, put) = lost.put (record { line = line; number = n } ∷ []) (staged.waits [] (no_group old none)) in record {
-        first = none;
-        number = n;
-        more = more;
-        put = put_from new.project old.project last (record { line = line; number = n } ∷ []) more _ staged.project refl put;
-        none = lost.none;
-        lost = lost.lost ∙ earlier;
-      }
+-- what waited was put, by one call of `put`; the maps are as they were drawn
+pub record Settles {D : Type 0} (facts : Ghosts D) (old new : Drawing D) : Type 0 where
+  pub none : new.group ≡ None
+  pub maps : drawn_maps new ≡ drawn_maps old
+  pub put : MatchOption old.group (new.project ≡ old.project)
+      (λ g. (staged : List Staged) → CanPut old.project g staged
+      → PutsGroup facts old.project staged (Ok tt) new.project)
 
-  some_back : (old new : Drawing D) (o : Option GroupState) (g : GroupState) → old.group ≡ o → is_some new.group ≡ is_some old.group → new.group ≡ Some g
-      → (h : GroupState) × (old.group ≡ Some h)
-  some_back old new None g is both some = absurd (true≢false (sym (ap is_some some) ∙ both ∙ ap is_some is))
-  some_back old new (Some h) g is both some = (h, is)
+-- what waited was put by one call of `put`, perhaps with more behind it, which failed: the project
+-- has the maps that it had before, and must be reopened
+pub record Loses {D : Type 0} (facts : Ghosts D) (old new : Drawing D) : Type 0 where
+  pub some : (g : GroupState) × (old.group ≡ Some g)
+  pub had : (staged : List Staged) × AreWaiting old staged
+  pub put : (staged : List Staged) → AreWaiting old staged
+      → (more : List Staged)
+      × PutsGroup facts old.project (staged ++ more) (Err Device) new.project
+  pub none : new.group ≡ None
+  pub lost : new.has_lost ≡ old.holds_earlier
 
-  pub lost_unchanged : (old new last : Drawing D) → IsUnchanged old new → Loses facts new last → Loses facts old last
-  lost_unchanged old new last same lost = record {
-    some = some_back old new old.group lost.some.0 refl same.both lost.some.1;
-    had = same.had;
-    put = λ front waits.
-        let (more, put) = lost.put front (same.waits front waits) in
-        (more, put_from new.project old.project last front more _ same.project refl put);
-    none = lost.none;
-    lost = lost.lost ∙ same.earlier;
-  }
+-- ---- Commands
 
-  staged_since : (old new last : Drawing D) (line : List ℕ) (n : ℕ) (o : Option GroupState) → old.group ≡ o → IsStaged old line n new → Loses facts new last
-      → ((new.holds_earlier ≡ old.holds_earlier) × Loses facts old last)
-      ⊎ ((new.holds_earlier ≡ false) × (old.is_alone ≡ false) × ChangesProject facts old line (Err 30) last)
-  staged_since old new last line n None is staged lost =
-      let earlier : new.holds_earlier ≡ false =
-      subst (λ (o : Option GroupState). MatchOption o (new.holds_earlier ≡ false) (λ g. new.holds_earlier ≡ old.holds_earlier)) is staged.earlier in
-      inr (earlier, staged.together, inr (inr (inr (refl, lost_first old new last line n is earlier staged lost))))
-  staged_since old new last line n (Some g) is staged lost =
-      let earlier : new.holds_earlier ≡ old.holds_earlier =
-      subst (λ (o : Option GroupState). MatchOption o (new.holds_earlier ≡ false) (λ g. new.holds_earlier ≡ old.holds_earlier)) is staged.earlier in
-      inl (earlier, lost_behind old new last line n g is earlier staged lost)
+-- the flags stay
+pub record AreFlagsKept {D : Type 0} (old new : Drawing D) : Type 0 where
+  pub alone : new.is_alone ≡ old.is_alone
+  pub lost : new.has_lost ≡ old.has_lost
 
-  pub lost_since : (old new last : Drawing D) (line : List ℕ) (outcome : Result ℕ ℕ) → ChangesProject facts old line outcome new → Loses facts new last
-      → ((new.holds_earlier ≡ old.holds_earlier) × Loses facts old last)
-      ⊎ ((new.holds_earlier ≡ false) × (old.is_alone ≡ false) × ChangesProject facts old line (Err 30) last)
-  lost_since old new last line (Ok n) (inl staged) lost = staged_since old new last line n old.group refl staged lost
-  lost_since old new last line (Err code) (inl (same, refused)) lost = inl (same.earlier, lost_unchanged old new last same lost)
-  lost_since old new last line outcome (inr (inl applied)) lost = absurd (none_lost new last applied.none lost)
-  lost_since old new last line outcome (inr (inr (inl (is, gone)))) lost = absurd (none_lost new last gone.none lost)
-  lost_since old new last line outcome (inr (inr (inr (is, gone)))) lost = absurd (none_lost new last gone.none lost)
+-- an accepted command waits behind the others, and nothing was put
+pub record IsStaged {D : Type 0} (old : Drawing D) (line : List ℕ) (number : ℕ) (new : Drawing D) :
+    Type 0 where
+  pub together : old.is_alone ≡ false
+  pub ready : old.project.must_reopen ≡ false
+  pub project : new.project ≡ old.project
+  pub accepts : Accepts old.project.cap (drawn_maps old) line (drawn_maps new) number
+  pub had : (staged : List Staged) × AreWaiting old staged
+  pub waits : (staged : List Staged) → AreWaiting old staged
+      → AreWaiting new (staged ++ record { line = line; number = number } ∷ [])
+  pub earlier : MatchOption old.group (new.holds_earlier ≡ false)
+      (λ g. new.holds_earlier ≡ old.holds_earlier)
+  pub flags : AreFlagsKept old new
 
-  err_is : (a b : ℕ) → ◌≡◌ {A = Result ℕ ℕ} (Err a) (Err b) → a ≡ b
-  err_is a b is = cc
+-- the same commands wait, and nothing was put
+pub record IsUnchanged {D : Type 0} (old new : Drawing D) : Type 0 where
+  pub project : new.project ≡ old.project
+  pub maps : drawn_maps new ≡ drawn_maps old
+  pub both : is_some new.group ≡ is_some old.group
+  pub had : (staged : List Staged) × AreWaiting old staged
+  pub waits : (staged : List Staged) → AreWaiting old staged → AreWaiting new staged
+  pub earlier : new.holds_earlier ≡ old.holds_earlier
+  pub flags : AreFlagsKept old new
 
-  not_ok : (n code : ℕ) → ◌≡◌ {A = Result ℕ ℕ} (Ok n) (Err code) → ⊥
-  not_ok n code is = cc
+-- a command was decided behind those that wait: it waits too, or is refused
+abbrev pub Stages : {D : Type 0} → Drawing D → List ℕ → Result ℕ ℕ → Drawing D → Type 0
+Stages old line (Ok number) new = IsStaged old line number new
+Stages old line (Err code) new = IsUnchanged old new
+    × ((e : ProjectError) × (code ≡ code_of e)
+    × RefusesStage e old.project.cap (drawn_maps old) line)
 
-  pub lost_within : (old new : Drawing D) (line : List ℕ) (code : ℕ) → ChangesProject facts old line (Err code) new → new.has_lost ≡ true
-      → (old.has_lost ≡ true) ⊎ ((code ≡ 30) × (old.holds_earlier ≡ true) × Loses facts old new)
-  lost_within old new line code (inl (same, refused)) is = inl (sym same.flags.lost ∙ is)
-  lost_within old new line code (inr (inl applied)) is = inl (sym applied.flags.lost ∙ is)
-  lost_within old new line code (inr (inr (inl (err, gone)))) is = inr (err_is code 30 err, sym gone.lost ∙ is, gone)
-  lost_within old new line code (inr (inr (inr (err, gone)))) is = absurd (true≢false (sym is ∙ gone.lost))
+-- what waited was put, and then the command by itself: `apply` met its contract, and the outcome is
+-- its result
+pub record IsApplied {D : Type 0} (facts : Ghosts D) (old : Drawing D) (line : List ℕ)
+    (outcome : Result ℕ ℕ) (new : Drawing D) : Type 0 where
+  pub mid : Drawing D
+  pub settled : Settles facts old mid
+  pub answer : Result ℕ ProjectError
+  pub applied : Applies facts mid.project line answer new.project
+  pub is : outcome ≡ outcome_in answer
+  pub none : new.group ≡ None
+  pub flags : AreFlagsKept old new
 
-  pub alone_stays : (old new : Drawing D) (line : List ℕ) (n : ℕ) → ChangesProject facts old line (Ok n) new
-      → (new.is_alone ≡ old.is_alone) × (new.has_lost ≡ old.has_lost)
-  alone_stays old new line n (inl staged) = (staged.flags.alone, staged.flags.lost)
-  alone_stays old new line n (inr (inl applied)) = (applied.flags.alone, applied.flags.lost)
-  alone_stays old new line n (inr (inr (inl (is, gone)))) = absurd (not_ok n 30 is)
-  alone_stays old new line n (inr (inr (inr (is, gone)))) = absurd (not_ok n 30 is)
+-- the command was put with others behind it by one call of `put`, which failed: they are lost
+pub record IsLostWith {D : Type 0} (facts : Ghosts D) (old : Drawing D) (line : List ℕ)
+    (new : Drawing D) : Type 0 where
+  pub first : old.group ≡ None
+  pub number : ℕ
+  pub more : List Staged
+  pub put : PutsGroup facts old.project (record { line = line; number = number } ∷ more)
+      (Err Device) new.project
+  pub none : new.group ≡ None
+  pub lost : new.has_lost ≡ false
 
-  pub nothing_told : (old new last : Drawing D) (line : List ℕ) (refusal : Option ℕ) (u w : Option (List ℕ)) → TellsBehind facts old line refusal new u w
-      → ¬ Loses facts new last
-  nothing_told old new last line refusal u w (inl (settled, same, told)) = λ lost. none_lost new last settled.none lost
-  nothing_told old new last line refusal u w (inr (is, gone, kept)) = λ lost. none_lost new last gone.none lost
+-- How a command of a script ended. It was decided behind those that wait; or it was put by itself,
+-- behind what waited; or what was put is lost (30): what waited, or the command with others behind
+-- it.
+abbrev pub ChangesProject : {D : Type 0} → Ghosts D → Drawing D → List ℕ → Result ℕ ℕ → Drawing D
+    → Type 0
+ChangesProject facts old line outcome new =
+    Stages old line outcome new
+    ⊎ (IsApplied facts old line outcome new
+    ⊎ (((outcome ≡ Err 30) × Loses facts old new)
+    ⊎ ((outcome ≡ Err 30) × IsLostWith facts old line new)))
 
-  some_is : (a b : ℕ) → ◌≡◌ {A = Option ℕ} (Some a) (Some b) → a ≡ b
-  some_is a b is = cc
+-- ---- A line
 
-  pub lost_told : (old new : Drawing D) (line : List ℕ) (code : ℕ) (u w : Option (List ℕ)) → TellsBehind facts old line (Some code) new u w → new.has_lost ≡ true
-      → (old.has_lost ≡ true) ⊎ ((code ≡ 30) × (old.holds_earlier ≡ true) × Loses facts old new × Keeps u w)
-  lost_told old new line code u w (inl (settled, same, told)) is = inl (sym same ∙ is)
-  lost_told old new line code u w (inr (err, gone, kept)) is = inr (some_is code 30 err, sym gone.lost ∙ is, gone, kept)
-
-  settle_again : (old mid new : Drawing D) (o : Option GroupState) → old.group ≡ o → new.project ≡ mid.project → Settles facts old mid
-      → MatchOption o (new.project ≡ old.project) (λ g. (staged : List Staged) → CanPut old.project g staged → PutsGroup facts old.project staged (Ok tt) new.project)
-  settle_again old mid new None is same settled =
-      same ∙ subst (λ (o : Option GroupState). MatchOption o (mid.project ≡ old.project)
-      (λ g. (staged : List Staged) → CanPut old.project g staged → PutsGroup facts old.project staged (Ok tt) mid.project)) is settled.put
-  settle_again old mid new (Some g) is same settled =
-      λ staged can. subst (λ (s : State D). PutsGroup facts old.project staged (Ok tt) s) (sym same)
-      (subst (λ (o : Option GroupState). MatchOption o (mid.project ≡ old.project)
-      (λ g. (staged : List Staged) → CanPut old.project g staged → PutsGroup facts old.project staged (Ok tt) mid.project)) is settled.put staged can)
-
-  settled_same : (mid new : Drawing D) → mid.group ≡ None → Settles facts mid new → new.project ≡ mid.project
-  settled_same mid new none settled =
-      subst (λ (o : Option GroupState). MatchOption o (new.project ≡ mid.project)
-      (λ g. (staged : List Staged) → CanPut mid.project g staged → PutsGroup facts mid.project staged (Ok tt) new.project)) none settled.put
-
-  pub settled_again : (old mid new : Drawing D) → Settles facts old mid → Settles facts mid new → Settles facts old new
-  settled_again old mid new first then = record {
-    none = then.none;
-    maps = then.maps ∙ first.maps;
-    put = settle_again old mid new old.group refl (settled_same mid new first.none then) first;
-  }
-
-  -- nothing waits, so that all is put
-  pub settled_none : (d last : Drawing D) → last.project ≡ d.project → last.group ≡ None → d.group ≡ None → drawn_maps last ≡ drawn_maps d → Settles facts d last
-  settled_none d last same none before maps = record {
-    none = none;
-    maps = maps;
-    put = subst (λ (o : Option GroupState). MatchOption o (last.project ≡ d.project)
-        (λ g. (staged : List Staged) → CanPut d.project g staged → PutsGroup facts d.project staged (Ok tt) last.project)) (sym before) same;
-  }
-
-  pub lost_settled : (old new : Drawing D) → Loses facts old new → Settles facts new new
-  lost_settled old new gone = settled_none new new refl gone.none gone.none refl
-
-  -- a drawing as it is when a line is begun
-  abbrev at_line : Drawing D → Bool → Drawing D
-  at_line mid alone = record {
+-- a line is begun: what waits may be put before it
+pub record BeginsLine {D : Type 0} (facts : Ghosts D) (old : Drawing D) (alone : Bool)
+    (new : Drawing D) : Type 0 where
+  pub mid : Drawing D
+  pub settled : (mid ≡ old) ⊎ Settles facts old mid
+  pub is : new ≡ record {
     project = mid.project;
     group = mid.group;
     is_alone = alone;
     holds_earlier = is_some mid.group;
     has_lost = false;
   }
-
-  abbrev WaitedBefore : Drawing D → Drawing D → Type 0
-  WaitedBefore old new = (last : Drawing D) → Loses facts new last → (new.holds_earlier ≡ true) × ((other : Drawing D) × Loses facts old other × Settles facts other last)
-
-  waited_same : (old : Drawing D) (alone : Bool) → WaitedBefore old (at_line old alone)
-  waited_same old alone last lost =
-      let other : Drawing D = record { project = last.project; group = last.group; is_alone = last.is_alone; holds_earlier = last.holds_earlier; has_lost = old.holds_earlier } in
-      let gone : Loses facts old other = record { some = lost.some; had = lost.had; put = lost.put; none = lost.none; lost = refl } in
-      (ap is_some lost.some.1, (other, gone, settled_none other last refl lost.none lost.none refl))
-
-  waited_at : (old mid : Drawing D) (alone : Bool) → (mid ≡ old) ⊎ Settles facts old mid → WaitedBefore old (at_line mid alone)
-  waited_at old mid alone (inl same) = subst (λ (d : Drawing D). WaitedBefore d (at_line mid alone)) same (waited_same mid alone)
-  waited_at old mid alone (inr settled) = λ last lost. absurd (none_or_some mid.group lost.some.0 settled.none lost.some.1)
-
-  pub waited_before : (old new : Drawing D) (alone : Bool) → BeginsLine facts old alone new
-      → (new.has_lost ≡ false) × (new.is_alone ≡ false → alone ≡ false) × WaitedBefore old new
-  waited_before old new alone begun =
-      (ap (λ (d : Drawing D). d.has_lost) begun.is, λ together. sym (ap (λ (d : Drawing D). d.is_alone) begun.is) ∙ together,
-      subst (λ (d : Drawing D). WaitedBefore old d) (sym begun.is) (waited_at old begun.mid alone begun.settled))

@@ -124,7 +124,8 @@ pub trait Canvas {
         (writer-old writer-new : Option (List ℕ))
         → tells old line (Some code) new writer-old writer-new → has_lost new ≡ true
         → (has_lost old ≡ true)
-        ⊎ ((code ≡ 30) × (holds_earlier old ≡ true) × loses old new × Keeps writer-old writer-new) };
+        ⊎ ((code ≡ 30) × (holds_earlier old ≡ true) × loses old new
+        × Keeps writer-old writer-new) };
 
     // What waits when a line is begun waited before.
     ghost begun: { (old new : Self) (is-alone : Bool) → begins old is-alone new

@@ -132,7 +132,11 @@ impl Canvas for Draft {
 
     ghost loss_told = { λ old new line code u w told lost. absurd (true≢false (sym lost)) };
 
-    ghost begun = { λ old new alone is. (refl, λ together. absurd (true≢false together), λ last lost. absurd lost) };
+    ghost begun = { λ old new alone is. (
+      refl,
+      λ together. absurd (true≢false together),
+      λ last lost. absurd lost,
+    ) };
 
     ghost lost_settled = { λ old new lost. absurd lost };
 

@@ -4,7 +4,8 @@ ghost use Rattle.map_script.specs.Known.{scope_of};
 ghost use Rattle.map_script.specs.Scopes.{first_scope};
 ghost use Rattle.map_script.specs.Views.{seen};
 ghost use Rattle.run_script.specs.Blocks.{with_places};
-ghost use Rattle.run_script.specs.Drawn.{EndsFrom, IsScriptDrawn, NothingWaits, at_first, line_limit};
+ghost use Rattle.run_script.specs.Canvases.{NothingWaits};
+ghost use Rattle.run_script.specs.Drawn.{EndsFrom, IsScriptDrawn, at_first, line_limit};
 ghost use Rattle.run_script.specs.Places.{AdvancesTo, IsFirstReading, IsWithinLines, progress_of};
 
 use crate::blocks::order_fault;
@@ -160,7 +161,7 @@ fn draw_all<C: Canvas, W: Write>(
         if !canvas.begin_line(is_verbose) {
             return Ok(Some(lost_from(first)));
         }
-        let ended = advance(
+        let refusal = match advance(
             alloc,
             canvas,
             names,
@@ -168,8 +169,7 @@ fn draw_all<C: Canvas, W: Write>(
             &mut reading,
             is_verbose,
             writer,
-        );
-        let refusal = match ended {
+        ) {
             Ok(refusal) => refusal,
             Err(error) => {
                 cut_off(canvas);
@@ -199,9 +199,9 @@ fn draw_all<C: Canvas, W: Write>(
 /// an `at` with their places placed.
 ///
 /// Answers to queries are written; for commands `NUMBER: ok N` is written if `is_verbose`. In a project the commands
-/// before a query are on the disk before it is answered, and so is a command whose answer is written. All others may wait
-/// and go to the disk together; if that fails, the first line of those that were to go is refused (30), and none of them
-/// is drawn.
+/// before a query are on the disk before it is answered, and so is a command whose answer is written. All others may
+/// wait, and go to the disk together; if that fails, the first line of those that were to go is refused (30), and none
+/// of them is drawn.
 ///
 /// `names` must be empty at
 /// first; after the call it has the names that the drawn lines gave. If the blocks are out of order, the script is

@@ -18,9 +18,9 @@ use store_project::{Project, ProjectError, ProjectGroup};
 // How many bytes of lines may wait before the next line is begun.
 const MOST_STAGED: usize = 65_536;
 
-/// A project onto which a script is drawn. Accepted commands wait in a group, which goes to the disk at once: before the
-/// answer to a query is written, where the next line is begun behind 64 KB of commands, where the journal is full, and
-/// at the script's end.
+/// A project onto which a script is drawn. Accepted commands wait in a group, which goes to the disk at once: before
+/// the answer to a query is written, where the next line is begun behind 64 KB of commands, where the journal is full,
+/// and at the script's end.
 pub struct ProjectCanvas<D: Disk> {
     project: Project<D>,
     group: Option<ProjectGroup>,
@@ -31,7 +31,7 @@ pub struct ProjectCanvas<D: Disk> {
 }
 
 impl<D: Disk> Model for ProjectCanvas<D> {
-    ghost use Rattle.run_script.specs.Canvases.{Drawing};
+    ghost use Rattle.run_script.specs.Waiting.{Drawing};
     ghost use Rattle.run_script.specs.Drawings.{IsSoundDrawing, drawing_of};
 
     ghost Value = { Drawing D };
@@ -53,7 +53,7 @@ fn outcome_in(answer: Result<u32, ProjectError>) -> Result<u32, u16>
 
 impl<D: Disk> ProjectCanvas<D> {
     ghost use Rattle.store_project.specs.Calls.{Applies};
-    ghost use Rattle.run_script.specs.Canvases.{IsApplied, IsUnchanged, Loses, Settles, Stages, first_drawing};
+    ghost use Rattle.run_script.specs.Waiting.{IsApplied, IsUnchanged, Loses, Settles, Stages, first_drawing};
 
     /// A project onto which nothing is drawn yet.
     pub fn new(project: Project<D>) -> Self
@@ -159,6 +159,15 @@ impl<D: Disk> ProjectCanvas<D> {
         }
     }
 
+    // The same if it is due.
+    fn put_if(&mut self, is_due: bool) -> bool
+        ensures settled { result ≡ true
+            → (self.new ≡ self.old) ⊎ Settles D.Disk self.old self.new }
+        ensures lost { result ≡ false → Loses D.Disk self.old self.new }
+    {
+        if is_due { self.put() } else { true }
+    }
+
     // Puts a line by itself.
     fn apply(&mut self, line: &[u8]) -> Result<u32, u16>
         requires { self.old.group ≡ None }
@@ -183,8 +192,10 @@ impl<D: Disk> ProjectCanvas<D> {
 }
 
 impl<D: Disk> Canvas for ProjectCanvas<D> {
-    ghost use Rattle.run_script.specs.Canvases.{BeginsLine, ChangesProject, Loses, Settles, TellsBehind, drawn_maps};
-    ghost use Rattle.run_script.specs.Waiting.{alone_stays, lost_since, lost_settled, lost_told, lost_within, nothing_told, settled_again, waited_before};
+    ghost use Rattle.run_script.specs.Canvases.{TellsBehind};
+    ghost use Rattle.run_script.specs.Waiting.{BeginsLine, ChangesProject, Loses, Settles, drawn_maps};
+    ghost use Rattle.run_script.specs.LossLaws.{lost_since};
+    ghost use Rattle.run_script.specs.PutLaws.{alone_stays, lost_settled, lost_told, lost_within, nothing_told, settled_again, waited_before};
 
     ghost changes = { ChangesProject D.Disk };
 
@@ -239,7 +250,8 @@ impl<D: Disk> Canvas for ProjectCanvas<D> {
         line: &[u8],
         writer: &mut W,
     ) -> Result<Option<u16>, ScriptError> {
-        if !self.put() {
+        let is_put = self.put();
+        if !is_put {
             return Ok(Some(ProjectError::Device.code()));
         }
         if self.project.must_reopen() {
@@ -249,7 +261,7 @@ impl<D: Disk> Canvas for ProjectCanvas<D> {
     }
 
     fn begin_line(&mut self, alone: bool) -> bool {
-        if (alone || self.staged >= MOST_STAGED) && !self.put() {
+        if !self.put_if(alone || self.staged >= MOST_STAGED) {
             return false;
         }
         self.is_alone = alone;
@@ -270,19 +282,20 @@ impl<D: Disk> Canvas for ProjectCanvas<D> {
         self.has_lost
     }
 
-    ghost loss_since = { lost_since D.Disk };
+    ghost loss_since = { λ old new last line outcome. lost_since _ old new last line outcome };
 
-    ghost loss_within = { lost_within D.Disk };
+    ghost loss_within = { λ old new line code. lost_within _ old new line code };
 
-    ghost stays_alone = { alone_stays D.Disk };
+    ghost stays_alone = { λ old new line number. alone_stays _ old new line number };
 
-    ghost told_all = { nothing_told D.Disk };
+    ghost told_all = { λ old new last line refusal u w.
+        nothing_told _ old new last line refusal u w };
 
-    ghost loss_told = { lost_told D.Disk };
+    ghost loss_told = { λ old new line code u w. lost_told _ old new line code u w };
 
-    ghost begun = { waited_before D.Disk };
+    ghost begun = { λ old new alone. waited_before _ old new alone };
 
-    ghost lost_settled = { lost_settled D.Disk };
+    ghost lost_settled = { λ old new. lost_settled _ old new };
 
-    ghost settled_again = { settled_again D.Disk };
+    ghost settled_again = { λ old mid new. settled_again _ old mid new };
 }

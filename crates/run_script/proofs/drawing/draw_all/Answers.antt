@@ -30,7 +30,7 @@ loop-count-preserved g c =
     let limit = limit_is c.args.lines.now in
     let start = at_first c.args.canvas.now (g.W.Write.contents c.args.writer.now) (map seen c.args.lines.now) in
     let mid = progress_of all c.loop-count.canvas (scope_of c.loop-count.names) (g.W.Write.contents c.loop-count.writer) c.loop-count.reading in
-    let new = progress_of all c.advance-ended.new.canvas (scope_of c.advance-ended.new.names) (g.W.Write.contents c.advance-ended.new.writer) c.advance-ended.new.reading in
+    let new = progress_of all c.advance.new.canvas (scope_of c.advance.new.names) (g.W.Write.contents c.advance.new.writer) c.advance.new.reading in
     let begins = c.if-not-begin_line.ensures.begun refl in
     let under : c.loop-count._count < line_limit (map seen c.args.lines.now) = omega (arith, limit, c.loop-count-test.true) in
     let lost = at_first_place g.C.Canvas c.args.is_verbose start (line_limit (map seen c.args.lines.now)) (length c.args.lines.now) c.first_place-first.result c.loop-count.first
@@ -61,7 +61,8 @@ returns-in_default-clause-drawn g c =
       within = omega (arith, limit, c.loop-count-test.true);
       reached = c.loop-count.invariant.reached;
       over = c.in_default.ensures.place;
-      leaves = (settled, refl);
+      put = settled;
+      has = refl;
     })
     c.loop-count.invariant.lost c.finish.ensures
 
@@ -73,7 +74,7 @@ returns-in-Err-clause-drawn g c =
     let mid = progress_of all c.loop-count.canvas (scope_of c.loop-count.names) (g.W.Write.contents c.loop-count.writer) c.loop-count.reading in
     let begins = c.if-not-begin_line.ensures.begun refl in (
       c.in-Err.ensures.advanced.0,
-      cut_off_at g.C.Canvas c.args.is_verbose start mid c.begin_line.new.self c.advance-ended.new.canvas c.cut_off.new.canvas c.loop-count._count c.loop-count.invariant.reached
+      cut_off_at g.C.Canvas c.args.is_verbose start mid c.begin_line.new.self c.advance.new.canvas c.cut_off.new.canvas c.loop-count._count c.loop-count.invariant.reached
           begins c.in-Err.ensures.advanced.1 c.cut_off.ensures,
     )
 
@@ -83,7 +84,7 @@ returns-then-has_lost-clause-drawn g c =
     let limit = limit_is c.args.lines.now in
     let start = at_first c.args.canvas.now (g.W.Write.contents c.args.writer.now) (map seen c.args.lines.now) in
     let mid = progress_of all c.loop-count.canvas (scope_of c.loop-count.names) (g.W.Write.contents c.loop-count.writer) c.loop-count.reading in
-    let new = progress_of all c.advance-ended.new.canvas (scope_of c.advance-ended.new.names) (g.W.Write.contents c.advance-ended.new.writer) c.advance-ended.new.reading in
+    let new = progress_of all c.advance.new.canvas (scope_of c.advance.new.names) (g.W.Write.contents c.advance.new.writer) c.advance.new.reading in
     let begins = c.if-not-begin_line.ensures.begun refl in
     let advanced = rw c.in-Some-refusal.is at c.in-Ok.ensures.advanced in
     let told = line_lost g.C.Canvas g.met.C.Canvas.loss_since g.met.C.Canvas.loss_within g.met.C.Canvas.stays_alone g.met.C.Canvas.told_all g.met.C.Canvas.loss_told
@@ -99,7 +100,7 @@ returns-then-has_lost-clause-place g c =
     let limit = limit_is c.args.lines.now in
     let start = at_first c.args.canvas.now (g.W.Write.contents c.args.writer.now) (map seen c.args.lines.now) in
     let mid = progress_of all c.loop-count.canvas (scope_of c.loop-count.names) (g.W.Write.contents c.loop-count.writer) c.loop-count.reading in
-    let new = progress_of all c.advance-ended.new.canvas (scope_of c.advance-ended.new.names) (g.W.Write.contents c.advance-ended.new.writer) c.advance-ended.new.reading in
+    let new = progress_of all c.advance.new.canvas (scope_of c.advance.new.names) (g.W.Write.contents c.advance.new.writer) c.advance.new.reading in
     let begins = c.if-not-begin_line.ensures.begun refl in
     let advanced = rw c.in-Some-refusal.is at c.in-Ok.ensures.advanced in
     let told = line_lost g.C.Canvas g.met.C.Canvas.loss_since g.met.C.Canvas.loss_within g.met.C.Canvas.stays_alone g.met.C.Canvas.told_all g.met.C.Canvas.loss_told
@@ -114,7 +115,7 @@ returns-in-Some-refusal-clause-drawn g c =
     let limit = limit_is c.args.lines.now in
     let start = at_first c.args.canvas.now (g.W.Write.contents c.args.writer.now) (map seen c.args.lines.now) in
     let mid = progress_of all c.loop-count.canvas (scope_of c.loop-count.names) (g.W.Write.contents c.loop-count.writer) c.loop-count.reading in
-    let new = progress_of all c.advance-ended.new.canvas (scope_of c.advance-ended.new.names) (g.W.Write.contents c.advance-ended.new.writer) c.advance-ended.new.reading in
+    let new = progress_of all c.advance.new.canvas (scope_of c.advance.new.names) (g.W.Write.contents c.advance.new.writer) c.advance.new.reading in
     let begins = c.if-not-begin_line.ensures.begun refl in
     let under : c.loop-count._count < line_limit (map seen c.args.lines.now) = omega (arith, limit, c.loop-count-test.true) in
     let lost = at_first_place g.C.Canvas c.args.is_verbose start (line_limit (map seen c.args.lines.now)) (length c.args.lines.now) c.first_place-first.result c.loop-count.first
@@ -125,7 +126,7 @@ returns-in-Some-refusal-clause-drawn g c =
     c.loop-count.invariant.reached under c.in-Some.ensures.within c.in-Some.ensures.place begins c.in-Ok.ensures.advanced c.loop-count.invariant.lost) in
     let advanced = rw c.in-Some-refusal.is at c.in-Ok.ensures.advanced in
     finished g.C.Canvas c.args.is_verbose start (line_limit (map seen c.args.lines.now)) (length c.args.lines.now) c.first_place-first.result new.sketch.written
-    c.advance-ended.new.canvas c.finish-in-Some-refusal.new.canvas _ c.finish-in-Some-refusal.result
+    c.advance.new.canvas c.finish-in-Some-refusal.new.canvas _ c.finish-in-Some-refusal.result
     (λ settled. record {
       count = c.loop-count._count;
       before = mid;
@@ -133,7 +134,8 @@ returns-in-Some-refusal-clause-drawn g c =
       reached = c.loop-count.invariant.reached;
       at_place = c.in-Some.ensures.place;
       refused = inl (under, (c.begin_line.new.self, begins, advanced));
-      leaves = (settled, refl);
+      put = settled;
+      has = refl;
     })
     lost c.finish-in-Some-refusal.ensures
 
@@ -143,7 +145,7 @@ returns-in-Some-refusal-clause-place g c =
     let limit = limit_is c.args.lines.now in
     let start = at_first c.args.canvas.now (g.W.Write.contents c.args.writer.now) (map seen c.args.lines.now) in
     let mid = progress_of all c.loop-count.canvas (scope_of c.loop-count.names) (g.W.Write.contents c.loop-count.writer) c.loop-count.reading in
-    let new = progress_of all c.advance-ended.new.canvas (scope_of c.advance-ended.new.names) (g.W.Write.contents c.advance-ended.new.writer) c.advance-ended.new.reading in
+    let new = progress_of all c.advance.new.canvas (scope_of c.advance.new.names) (g.W.Write.contents c.advance.new.writer) c.advance.new.reading in
     let begins = c.if-not-begin_line.ensures.begun refl in
     let under : c.loop-count._count < line_limit (map seen c.args.lines.now) = omega (arith, limit, c.loop-count-test.true) in
     let lost = at_first_place g.C.Canvas c.args.is_verbose start (line_limit (map seen c.args.lines.now)) (length c.args.lines.now) c.first_place-first.result c.loop-count.first
@@ -153,7 +155,7 @@ returns-in-Some-refusal-clause-place g c =
     (line_limit (map seen c.args.lines.now)) (length c.args.lines.now) c.loop-count._count c.loop-count.first c.in-Some.place mid new c.begin_line.new.self c.in-Ok.refusal
     c.loop-count.invariant.reached under c.in-Some.ensures.within c.in-Some.ensures.place begins c.in-Ok.ensures.advanced c.loop-count.invariant.lost) in
     finished_place g.C.Canvas c.args.is_verbose start (line_limit (map seen c.args.lines.now)) (length c.args.lines.now) c.first_place-first.result new.sketch.written
-    c.advance-ended.new.canvas c.finish-in-Some-refusal.new.canvas _ c.finish-in-Some-refusal.result c.in-Some.ensures.within lost c.finish-in-Some-refusal.ensures
+    c.advance.new.canvas c.finish-in-Some-refusal.new.canvas _ c.finish-in-Some-refusal.result c.in-Some.ensures.within lost c.finish-in-Some-refusal.ensures
 
 pub returns-in-None-clause-drawn : goal.returns-in-None-clause-drawn
 returns-in-None-clause-drawn g c =
@@ -169,7 +171,8 @@ returns-in-None-clause-drawn g c =
       within = omega (arith, limit);
       reached = c.loop-count.invariant.reached;
       over = c.in-None.ensures.place;
-      leaves = (settled, refl);
+      put = settled;
+      has = refl;
     })
     c.loop-count.invariant.lost c.finish-in-None.ensures
 
@@ -188,6 +191,7 @@ returns-clause-drawn g c =
       reached = c.loop-count.invariant.reached;
       at_place = c.in-Some-place_at_hand.ensures.place;
       refused = inr (omega (arith, limit, c.loop-count-test.false), c.code-code.ensures, refl);
-      leaves = (settled, refl);
+      put = settled;
+      has = refl;
     })
     c.loop-count.invariant.lost c.finish-in-Some-place_at_hand.ensures

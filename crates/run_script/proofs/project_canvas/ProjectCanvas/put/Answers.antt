@@ -1,7 +1,7 @@
 use Rattle.std.proofs.Common.{◌≡◌, ◌∙◌, Option, false, refl, subst, sym}
 use Rattle.std.specs.Prelude.{IfSome}
 use Rattle.store_project.specs.Groups.{GroupState, IsGroupFor}
-use Rattle.run_script.specs.Canvases.{Drawing, Loses}
+use Rattle.run_script.specs.Waiting.{Drawing, Loses}
 use Rattle.run_script.specs.Drawings.{drawing_of}
 use Rattle.run_script.proofs.Putting.{put_lost}
 use Rattle.run_script.proofs.project_canvas.ProjectCanvas.put.Goals as goal

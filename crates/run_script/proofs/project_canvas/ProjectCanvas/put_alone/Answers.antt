@@ -1,5 +1,5 @@
 use Rattle.std.proofs.Common.{◌∙◌, ap, inl, refl}
-use Rattle.run_script.specs.Canvases.{Drawing}
+use Rattle.run_script.specs.Waiting.{Drawing}
 use Rattle.run_script.proofs.project_canvas.ProjectCanvas.put_alone.Goals as goal
 
 pub returns : goal.returns

@@ -1,6 +1,6 @@
 use Rattle.std.proofs.Common.{◌∙◌, [], ap, false, refl, subst, Some}
 use Rattle.store_project.specs.declared.error.ProjectError.TheVariants.{Reopen}
-use Rattle.run_script.specs.Canvases.{Drawing, IsStaged}
+use Rattle.run_script.specs.Waiting.{Drawing, IsStaged}
 use Rattle.run_script.specs.Drawings.{drawing_of}
 use Rattle.run_script.proofs.Putting.{first_staged, ready_of}
 use Rattle.run_script.proofs.project_canvas.ProjectCanvas.stage_first.Goals as goal
