@@ -53,11 +53,13 @@ fn outcome_in(answer: Result<u32, ProjectError>) -> Result<u32, u16>
 
 impl<D: Disk> ProjectCanvas<D> {
     ghost use Rattle.store_project.specs.Calls.{Applies};
+    ghost use Rattle.run_script.specs.Canvases.{NothingWaits, project_canvas};
     ghost use Rattle.run_script.specs.Waiting.{IsApplied, IsUnchanged, Loses, Settles, Stages, first_drawing};
 
     /// A project onto which nothing is drawn yet.
     pub fn new(project: Project<D>) -> Self
-        ensures { result ≡ first_drawing project }
+        ensures first { result ≡ first_drawing project }
+        ensures settled { NothingWaits (project_canvas D.Disk) result }
     {
         ProjectCanvas {
             project,
@@ -261,7 +263,8 @@ impl<D: Disk> Canvas for ProjectCanvas<D> {
     }
 
     fn begin_line(&mut self, alone: bool) -> bool {
-        if !self.put_if(alone || self.staged >= MOST_STAGED) {
+        let is_due = alone || self.staged >= MOST_STAGED;
+        if !self.put_if(is_due) {
             return false;
         }
         self.is_alone = alone;
