@@ -3,7 +3,7 @@ ghost use Rattle.std.specs.Prelude.{◌≡◌, ◌≤◌, ◌<◌, ◌⊎◌, No
 ghost use Rattle.std.specs.Io.KnownBytes.{Keeps};
 ghost use Rattle.cli_program.specs.Drawing.{IsDrawnOnto, IsHandedOn, IsStopTold, IsTriedOn, ShowsStop, TellsRefused, TellsStopFrom, stop_status};
 ghost use Rattle.map_script.specs.Views.{seen};
-ghost use Rattle.run_script.specs.Drawn.{NothingWaits};
+ghost use Rattle.run_script.specs.Canvases.{NothingWaits};
 ghost use Rattle.run_script.specs.declared.error.ScriptError.TheVariants.{OutOfMemory};
 ghost use Rattle.cli_program.specs.DrawnOver.{IsDrawnOver};
 ghost use Rattle.cli_program.specs.ScriptMaps.{DrawsWhole, IsStoppedFrom};
