@@ -10,6 +10,7 @@ use Rattle.map_script.specs.declared.script.ScriptLine.{ScriptLine}
 use Rattle.store_project.specs.States.{State}
 use Rattle.store_project.specs.declared.error.ProjectError.{ProjectError}
 use Rattle.run_script.specs.Canvases.{draft_canvas, project_canvas}
+use Rattle.run_script.specs.Waiting.{Drawing, first_drawing}
 use Rattle.run_script.specs.Drawn.{IsScriptDrawn}
 use Rattle.run_script.specs.Refused.{TellsStop}
 use Rattle.run_script.specs.declared.canvas.Canvas as canvas
@@ -147,8 +148,9 @@ EndsUnopened how writer-old writer-new =
 abbrev pub IsDrawnOntoSome : {D : Type 0} → Ghosts D → Bool → List ℕ → Result ℕ Refusal
     → Option (List ℕ) → Option (List ℕ) → Type 0
 IsDrawnOntoSome {D = D} facts verbose script how writer-old writer-new =
-    (first : State D) × (last : State D) × (first.must_reopen ≡ false)
-    × IsDrawnOnto (project_canvas facts) verbose script how first last writer-old writer-new
+    (first : State D) × (last : Drawing D) × (first.must_reopen ≡ false)
+    × IsDrawnOnto (project_canvas facts) verbose script how (first_drawing first) last
+    writer-old writer-new
 
 -- the script can't be read; or it was read whole, and no project was opened, or its lines were
 -- drawn onto one

@@ -4,6 +4,7 @@ use Rattle.std.specs.Io.KnownBytes.{Keeps}
 use Rattle.store_disk.specs.declared.disk.Disk.{Ghosts}
 use Rattle.store_project.specs.States.{State}
 use Rattle.run_script.specs.Canvases.{project_canvas}
+use Rattle.run_script.specs.Waiting.{Drawing, first_drawing}
 use Rattle.run_edit.specs.Recovery.{IsOnlyRead}
 use Rattle.cli_program.specs.Drawing.{IsDrawnOnto}
 use Rattle.cli_program.specs.Sources.{IsOpenedFrom, NotOpened}
@@ -16,6 +17,7 @@ abbrev pub IsDrawnOver : {D : Type 0} → Ghosts D → D → D → Bool → List
 IsDrawnOver {D = D} facts before after verbose script how writer-old writer-new =
     (NotOpened facts before after how × IsOnlyRead facts before after
     × Keeps writer-old writer-new)
-    ⊎ ((first : State D) × (last : State D) × IsOpenedFrom facts before first
-    × (after ≡ last.disk)
-    × IsDrawnOnto (project_canvas facts) verbose script how first last writer-old writer-new)
+    ⊎ ((first : State D) × (last : Drawing D) × IsOpenedFrom facts before first
+    × (after ≡ last.project.disk)
+    × IsDrawnOnto (project_canvas facts) verbose script how (first_drawing first) last
+    writer-old writer-new)

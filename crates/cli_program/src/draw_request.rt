@@ -3,6 +3,7 @@ ghost use Rattle.std.specs.Prelude.{◌≡◌, ◌≤◌, ◌<◌, ◌⊎◌, No
 ghost use Rattle.std.specs.Io.KnownBytes.{Keeps};
 ghost use Rattle.cli_program.specs.Drawing.{IsDrawnOnto, IsHandedOn, IsStopTold, IsTriedOn, ShowsStop, TellsRefused, TellsStopFrom, stop_status};
 ghost use Rattle.map_script.specs.Views.{seen};
+ghost use Rattle.run_script.specs.Canvases.{NothingWaits};
 ghost use Rattle.run_script.specs.declared.error.ScriptError.TheVariants.{OutOfMemory};
 ghost use Rattle.cli_program.specs.DrawnOver.{IsDrawnOver};
 ghost use Rattle.cli_program.specs.ScriptMaps.{DrawsWhole, IsStoppedFrom};
@@ -13,7 +14,7 @@ use lump_text::{shown_name, write_shown_lines};
 use map_script::{Names, ScriptLine, script_lines};
 use map_tables::Maps;
 use run_edit::EditorError;
-use run_script::{Canvas, Draft, ScriptError, Stop, write_refused};
+use run_script::{Canvas, Draft, ProjectCanvas, ScriptError, Stop, write_refused};
 use std::alloc::Global;
 use std::io::{self, Write};
 use store_disk::Disk;
@@ -142,6 +143,7 @@ fn draw_onto<C: Canvas, W: Write, F: Write>(
     writer: &mut W,
     faults: &mut F,
 ) -> Result<u8, Refusal>
+    requires { NothingWaits C.Canvas canvas.old }
     ensures small { IfOk result (λ s. s ≤ 3) }
     ensures drawn { IsDrawnOnto C.Canvas script.entry.is_verbose script.entry.text.now result
         canvas.old canvas.new (W.contents writer.old) (W.contents writer.new) }
@@ -179,11 +181,13 @@ pub fn draw<D: Disk, W: Write, F: Write>(
         script.entry.text.now result.how (W.contents writer.old) (W.contents writer.new) }
     ensures quiet { result.how ≡ Ok 0 → Keeps (F.contents faults.old) (F.contents faults.new) }
 {
-    let mut project = match open_project(alloc, disk) {
+    let project = match open_project(alloc, disk) {
         Ok(project) => project,
         Err(refused) => return not_opened(refused),
     };
-    let how = draw_onto(alloc, &mut project, script, writer, faults);
+    let mut canvas = ProjectCanvas::new(project);
+    let how = draw_onto(alloc, &mut canvas, script, writer, faults);
+    let project = canvas.into_project();
     HandedBack {
         how,
         disk: project.into_disk(),

@@ -1,6 +1,9 @@
 pub mod Currents
+pub mod Grouped
 pub mod LineEnds
+pub mod Losing
 pub mod PlacedLines
 pub mod Positions
 pub mod Progressing
+pub mod Putting
 pub mod ShapeSteps

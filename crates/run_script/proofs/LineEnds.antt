@@ -78,7 +78,7 @@ pub ended_line : {S : Type 0} (facts : Ghosts S) (verbose : Bool) (line : ℕ ×
     (λ e. ((e ≡ cut.OutOfMemory) ⊎ (e ≡ cut.WriterFailed)) × ((x : Sketch S) × IsTried facts verbose line text old None x × (canvas ≡ x.canvas)))
     → MatchResult r (λ refusal. DrawsOther facts verbose line old refusal new)
     (λ e. ((e ≡ cut.OutOfMemory) ⊎ (e ≡ cut.WriterFailed))
-    × ((canvas ≡ old.canvas) ⊎ ((x : Sketch S) × DrawsOther facts verbose line old None x × (canvas ≡ x.canvas))))
+    × (facts.settles old.canvas canvas ⊎ ((x : Sketch S) × DrawsOther facts verbose line old None x × (canvas ≡ x.canvas))))
 ended_line facts verbose line old new canvas text (Ok refusal) is none tried =
     resolved_line facts verbose line old new refusal text is (tried_text facts verbose line old new refusal text none tried)
 ended_line facts verbose line old new canvas text (Err e) is none (cause, (x, tried, at)) =
@@ -133,10 +133,10 @@ pub other_ends : {S : Type 0} (facts : Ghosts S) (verbose : Bool) (line : ℕ ×
     → let_words (text_words line.1) ≡ None
     → MatchResult r (λ refusal. DrawsOther facts verbose line old refusal new)
     (λ e. ((e ≡ cut.OutOfMemory) ⊎ (e ≡ cut.WriterFailed))
-    × ((canvas ≡ old.canvas) ⊎ ((x : Sketch S) × DrawsOther facts verbose line old None x × (canvas ≡ x.canvas))))
+    × (facts.settles old.canvas canvas ⊎ ((x : Sketch S) × DrawsOther facts verbose line old None x × (canvas ≡ x.canvas))))
     → MatchResult r (λ refusal. DrawsLine facts verbose line old refusal new)
     (λ e. ((e ≡ cut.OutOfMemory) ⊎ (e ≡ cut.WriterFailed))
-    × ((canvas ≡ old.canvas) ⊎ ((x : Sketch S) × DrawsLine facts verbose line old None x × (canvas ≡ x.canvas))))
+    × (facts.settles old.canvas canvas ⊎ ((x : Sketch S) × DrawsLine facts verbose line old None x × (canvas ≡ x.canvas))))
 other_ends facts verbose line old new canvas (Ok refusal) is drawn = other_line facts verbose line old new refusal is drawn
 other_ends facts verbose line old new canvas (Err e) is (cause, inl same) = (cause, inl same)
 other_ends facts verbose line old new canvas (Err e) is (cause, inr (x, drawn, at)) = (cause, inr (x, other_line facts verbose line old x None is drawn, at))

@@ -14,7 +14,7 @@ use Rattle.map_script.specs.Words.{text_words}
 use Rattle.map_script.specs.declared.names.Names.{Names}
 use Rattle.map_script.specs.declared.script.ScriptLine.{ScriptLine}
 use Rattle.run_script.specs.Blocks.{lines_between, with_places}
-use Rattle.run_script.specs.Drawn.{Advances, AdvancesOver, ComesTo, DrawsNext, IsCutOff, Progress, at_first, at_position, opened_by}
+use Rattle.run_script.specs.Drawn.{Advances, AdvancesOver, ComesTo, DrawsNext, Progress, Steps, at_first, at_position, opened_by}
 use Rattle.run_script.specs.Lines.{DrawsLine, Sketch, sketch_of}
 use Rattle.run_script.specs.Turns.{EndsTurn, OpensBlock, Position, Turn, after_at, after_loop, after_opening, after_words}
 use Rattle.run_script.specs.Places.{AdvancesTo, IsBlockWithin, IsFirstReading, IsWithinLines, position_of, progress_of, turns_of}
@@ -89,14 +89,14 @@ pub ended_next : {S : Type 0} (facts : Ghosts S) (verbose : Bool) (lines : List 
     → at_words (text_words x.text.items) ≡ None → s.place ≡ r.place + 1 → s.until ≡ r.until → s.blocks.items ≡ r.blocks.items → new.canvas ≡ canvas
     → MatchResult result (λ refusal. DrawsLine facts verbose (seen x) old refusal new)
     (λ e. ((e ≡ cut.OutOfMemory) ⊎ (e ≡ cut.WriterFailed))
-    × ((canvas ≡ old.canvas) ⊎ ((y : Sketch S) × DrawsLine facts verbose (seen x) old None y × (canvas ≡ y.canvas))))
+    × (facts.settles old.canvas canvas ⊎ ((y : Sketch S) × DrawsLine facts verbose (seen x) old None y × (canvas ≡ y.canvas))))
     → AdvancesTo facts verbose (progress_of (with_places (map seen lines)) old.canvas old.names old.written r) result
     (progress_of (with_places (map seen lines)) new.canvas new.names new.written s)
 ended_next facts verbose lines x old new canvas r s (Ok refusal) is below inside other neither place until blocks has drawn =
     let all : List (ℕ × (ℕ × List ℕ)) = with_places (map seen lines) in
     drew_other facts verbose lines x old r (progress_of all new.canvas new.names new.written s) refusal is below inside other neither
     (drawn, ap₂ (λ (i j : ℕ). lines_between all i j) place until, ap (turns_of all) blocks)
-ended_next facts verbose lines x old new canvas r s (Err e) is below inside other neither place until blocks has (cause, inl same) = (cause, inl (has ∙ same))
+ended_next {S} facts verbose lines x old new canvas r s (Err e) is below inside other neither place until blocks has (cause, inl settled) = (cause, inl (subst (λ (c : S). facts.settles old.canvas c) (sym has) settled))
 ended_next {S} facts verbose lines x old new canvas r s (Err e) is below inside other neither place until blocks has (cause, inr (y, drawn, at)) =
     let all : List (ℕ × (ℕ × List ℕ)) = with_places (map seen lines) in
     let last : Progress S = record { sketch = y; lines = lines_between all (r.place + 1) r.until; turns = turns_of all r.blocks.items } in (
@@ -108,18 +108,10 @@ ended_next {S} facts verbose lines x old new canvas r s (Err e) is below inside 
 
 -- one more
 pub ComesTo-more : {S : Type 0} (facts : Ghosts S) (verbose : Bool) (first mid new : Progress S) (n : ℕ) → ComesTo facts verbose first n mid
-    → Advances facts verbose mid None new → ComesTo facts verbose first (n + 1) new
+    → Steps facts verbose mid None new → ComesTo facts verbose first (n + 1) new
 ComesTo-more facts verbose first mid new n reached drawn =
     let more : suc n ≡ n + 1 = omega arith in
     subst (λ m. ComesTo facts verbose first m new) more (mid, reached, drawn)
-
--- lines were drawn, and perhaps one more, when a call was cut off
-pub cut_off_at : {S : Type 0} (facts : Ghosts S) (verbose : Bool) (first mid : Progress S) (canvas : S) (n : ℕ) → ComesTo facts verbose first n mid
-    → (canvas ≡ mid.sketch.canvas) ⊎ ((last : Progress S) × Advances facts verbose mid None last × (canvas ≡ last.sketch.canvas))
-    → IsCutOff facts verbose first canvas
-cut_off_at facts verbose first mid canvas n reached (inl same) = record { count = n; last = mid; reached = reached; has = same }
-cut_off_at facts verbose first mid canvas n reached (inr (last, drawn, at)) =
-    record { count = suc n; last = last; reached = (mid, reached, drawn); has = at }
 
 -- ---- All of them
 

@@ -1,29 +1,17 @@
 -- What a script is drawn onto, a project file or maps in memory, and what each promises for a
 -- command and for a query (docs/COMMANDS.md, "Answers and queries").
-use Rattle.std.specs.Prelude.{◌≡◌, ℕ, Bool, List, Option, Some, None, Result, MatchOption, is_some}
+use Rattle.std.specs.Prelude.{◌≡◌, ◌⊎◌, ℕ, Bool, true, false, List, Option, Some, None, MatchOption, is_some}
 use Rattle.std.specs.Io.KnownBytes.{Appends, Keeps}
 use Rattle.store_disk.specs.declared.disk.Disk.{Ghosts}
 use Rattle.map_tables.specs.Projects.{ProjectMaps, project_of}
-use Rattle.store_project.specs.Calls.{Applies}
 use Rattle.store_project.specs.States.{State}
-use Rattle.store_project.specs.declared.error.ProjectError.{ProjectError}
 use Rattle.run_edit.specs.Answers.{ChangesBy}
-use Rattle.run_edit.specs.Editing.{outcome_in}
 use Rattle.run_edit.specs.Queries.{IsAnswer, TakesMemory, query_of}
 use Rattle.run_edit.specs.declared.limits.TheConstants.{LONGEST_BODY}
 use Rattle.run_edit.specs.declared.query.Query.{Query}
 use Rattle.run_script.specs.Lines.{OneOf}
+use Rattle.run_script.specs.Waiting.{BeginsLine, ChangesProject, Drawing, Loses, Settles, drawn_maps}
 use Rattle.run_script.specs.declared.canvas.Canvas as canvas
-
--- ---- Commands
-
--- a command over a project file: `apply` met its contract for the line, and the outcome is its
--- result
-abbrev pub ChangesProject : {D : Type 0} → Ghosts D → State D → List ℕ → Result ℕ ℕ → State D
-    → Type 0
-ChangesProject facts old line outcome new =
-    (answer : Result ℕ ProjectError) × Applies facts old line answer new
-    × (outcome ≡ outcome_in answer)
 
 -- ---- Queries
 
@@ -46,31 +34,62 @@ TellsOfMaps p line refusal writer-old writer-new =
     MatchOption (query_of line) ((refusal ≡ Some 1) × Keeps writer-old writer-new)
     (λ q. TellsQuery p q.1 refusal writer-old writer-new)
 
--- the same for a project; if it must be reopened, it refuses every query
+-- the same for a project, of which nothing waits; if it must be reopened, it refuses every query
 abbrev pub TellsOfProject : {D : Type 0} → State D → List ℕ → Option ℕ → Option (List ℕ)
     → Option (List ℕ) → Type 0
 TellsOfProject project line refusal writer-old writer-new =
     OneOf project.must_reopen ((refusal ≡ Some 32) × Keeps writer-old writer-new)
     (TellsOfMaps (project_of project.maps) line refusal writer-old writer-new)
 
+-- what waited was put, and then the query was answered or refused; or it is lost, and the query is
+-- refused with 30
+abbrev pub TellsBehind : {D : Type 0} → Ghosts D → Drawing D → List ℕ → Option ℕ → Drawing D
+    → Option (List ℕ) → Option (List ℕ) → Type 0
+TellsBehind facts old line refusal new writer-old writer-new =
+    (Settles facts old new × (new.has_lost ≡ old.has_lost)
+    × TellsOfProject new.project line refusal writer-old writer-new)
+    ⊎ ((refusal ≡ Some 30) × Loses facts old new × Keeps writer-old writer-new)
+
+-- the maps stay, and the answer to a query about them was written
+abbrev pub TellsOfDraft : ProjectMaps → List ℕ → Option ℕ → ProjectMaps → Option (List ℕ)
+    → Option (List ℕ) → Type 0
+TellsOfDraft old line refusal new writer-old writer-new =
+    (new ≡ old) × TellsOfMaps old line refusal writer-old writer-new
+
 -- ---- Canvases
 
 -- a project over a disk
-abbrev pub project_canvas : {D : Type 0} → Ghosts D → canvas.Ghosts (State D)
+abbrev pub project_canvas : {D : Type 0} → Ghosts D → canvas.Ghosts (Drawing D)
 project_canvas facts = record {
   changes = ChangesProject facts;
-  maps_in = λ s. project_of s.maps;
-  cap_in = λ s. s.cap;
+  maps_in = drawn_maps;
+  cap_in = λ d. d.project.cap;
   is_query = is_query_line;
-  tells = TellsOfProject;
+  tells = TellsBehind facts;
+  begins = BeginsLine facts;
+  settles = Settles facts;
+  loses = Loses facts;
+  is_alone = λ d. d.is_alone;
+  holds_earlier = λ d. d.holds_earlier;
+  has_lost = λ d. d.has_lost;
 }
 
--- maps in memory, which may be as long as those of any project file
+-- maps in memory, which may be as long as those of any project file; no command waits
 abbrev pub draft_canvas : canvas.Ghosts ProjectMaps
 draft_canvas = record {
   changes = ChangesBy LONGEST_BODY;
   maps_in = λ p. p;
   cap_in = λ _. LONGEST_BODY;
   is_query = is_query_line;
-  tells = TellsOfMaps;
+  tells = TellsOfDraft;
+  begins = λ old alone new. new ≡ old;
+  settles = λ old new. new ≡ old;
+  loses = λ old new. ⊥;
+  is_alone = λ _. true;
+  holds_earlier = λ _. false;
+  has_lost = λ _. false;
 }
+
+-- no command waits on a canvas
+abbrev pub NothingWaits : {S : Type 0} → canvas.Ghosts S → S → Type 0
+NothingWaits {S = S} facts canvas = (last : S) → ¬ facts.loses canvas last

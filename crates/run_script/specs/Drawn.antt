@@ -60,13 +60,28 @@ AdvancesOver facts verbose (l ∷ ls) old refusal new =
 abbrev pub Advances : {S : Type 0} → Ghosts S → Bool → Progress S → Option ℕ → Progress S → Type 0
 Advances facts verbose old refusal new = AdvancesOver facts verbose old.lines old refusal new
 
+-- the same with another canvas
+abbrev pub on_canvas : {S : Type 0} → S → Progress S → Progress S
+on_canvas canvas p = record {
+  sketch = sketch_of canvas p.sketch.names p.sketch.written;
+  lines = p.lines;
+  turns = p.turns;
+}
+
+-- the same after the canvas has begun the line: where answers are written, each command is put by
+-- itself, and else what waits may be put first
+abbrev pub Steps : {S : Type 0} → Ghosts S → Bool → Progress S → Option ℕ → Progress S → Type 0
+Steps {S = S} facts verbose old refusal new =
+    (canvas : S) × facts.begins old.sketch.canvas verbose canvas
+    × Advances facts verbose (on_canvas canvas old) refusal new
+
 -- ---- A script
 
 -- so many lines were drawn and turns ended, one after the other, and none was refused
 abbrev pub ComesTo : {S : Type 0} → Ghosts S → Bool → Progress S → ℕ → Progress S → Type 0
 ComesTo facts verbose first zero new = new ≡ first
 ComesTo {S = S} facts verbose first (suc n) new =
-    (mid : Progress S) × ComesTo facts verbose first n mid × Advances facts verbose mid None new
+    (mid : Progress S) × ComesTo facts verbose first n mid × Steps facts verbose mid None new
 
 -- no line is to come, and no block is open
 abbrev pub IsOver : {S : Type 0} → Progress S → Type 0
@@ -83,14 +98,10 @@ IsAtPlace (l ∷ ls) turns place = place ≡ l.0
 abbrev pub line_limit : List (ℕ × List ℕ) → ℕ
 line_limit lines = 1000000 + length lines
 
--- the sketch before the first line: no name yet
-abbrev pub first_sketch : {S : Type 0} → S → Option (List ℕ) → Sketch S
-first_sketch canvas written = sketch_of canvas first_scope written
-
--- before the first of these lines
+-- before the first of these lines: no name yet
 abbrev pub at_first : {S : Type 0} → S → Option (List ℕ) → List (ℕ × List ℕ) → Progress S
 at_first canvas written lines = record {
-  sketch = first_sketch canvas written;
+  sketch = sketch_of canvas first_scope written;
   lines = with_places lines;
   turns = [];
 }
@@ -98,16 +109,12 @@ at_first canvas written lines = record {
 -- after so many lines one was refused with this code, or the limit was met, and it is 48
 abbrev pub Refuses : {S : Type 0} → Ghosts S → Bool → ℕ → ℕ → Progress S → ℕ → Progress S → Type 0
 Refuses facts verbose limit n old code new =
-    ((n < limit) × Advances facts verbose old (Some code) new)
+    ((n < limit) × Steps facts verbose old (Some code) new)
     ⊎ ((n ≡ limit) × (code ≡ 48) × (new ≡ old))
 
 -- ---- How a call ended
 
--- the sketch has this canvas, and its writer holds this
-abbrev pub Has : {S : Type 0} → Sketch S → S → Option (List ℕ) → Type 0
-Has sketch canvas written = (canvas ≡ sketch.canvas) × (written ≡ sketch.written)
-
--- all lines were drawn
+-- all lines were drawn, and what waited was put
 pub record IsAllDrawn {S : Type 0} (facts : Ghosts S) (verbose : Bool) (first : Progress S)
     (limit : ℕ) (canvas : S) (written : Option (List ℕ)) : Type 0 where
   pub count : ℕ
@@ -115,9 +122,11 @@ pub record IsAllDrawn {S : Type 0} (facts : Ghosts S) (verbose : Bool) (first : 
   pub within : count ≤ limit
   pub reached : ComesTo facts verbose first count last
   pub over : IsOver last
-  pub has : Has last.sketch canvas written
+  pub put : facts.settles last.sketch.canvas canvas
+  pub has : written ≡ last.sketch.written
 
--- the lines before one were drawn, and the one at the stop's place was refused with its code
+-- The lines before one were drawn, and the one at the stop's place was refused with its code. With 30
+-- it may be the first of those that were to be put together.
 pub record IsStoppedAt {S : Type 0} (facts : Ghosts S) (verbose : Bool) (first : Progress S)
     (limit : ℕ) (stop : Stop) (canvas : S) (written : Option (List ℕ)) : Type 0 where
   pub count : ℕ
@@ -126,15 +135,20 @@ pub record IsStoppedAt {S : Type 0} (facts : Ghosts S) (verbose : Bool) (first :
   pub reached : ComesTo facts verbose first count before
   pub at_place : IsAtPlace before.lines before.turns stop.place
   pub refused : Refuses facts verbose limit count before stop.code after
-  pub has : Has after.sketch canvas written
+  pub put : facts.settles after.sketch.canvas canvas
+  pub has : written ≡ after.sketch.written
 
--- this is the canvas after the lines that were drawn before memory ran out or the writer failed
+-- this is the canvas after the lines that were drawn before memory ran out or the writer failed; what
+-- waited was put then, or is lost
 pub record IsCutOff {S : Type 0} (facts : Ghosts S) (verbose : Bool) (first : Progress S)
     (canvas : S) : Type 0 where
   pub count : ℕ
   pub last : Progress S
   pub reached : ComesTo facts verbose first count last
-  pub has : canvas ≡ last.sketch.canvas
+  pub left : S
+  pub settled : (left ≡ last.sketch.canvas) ⊎ ((begun : S)
+      × facts.begins last.sketch.canvas verbose begun × facts.settles begun left)
+  pub leaves : facts.settles left canvas ⊎ facts.loses left canvas
 
 -- how a call ended that began before the first line: all were drawn; or those before a refused one;
 -- or those before memory ran out or the writer failed

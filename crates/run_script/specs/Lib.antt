@@ -1,11 +1,15 @@
 pub mod Blocks
 pub mod Canvases
+pub mod Drawings
 pub mod Drawn
 pub mod Errors
 pub mod Given
 pub mod Lines
+pub mod LossLaws
 pub mod Names
 pub mod Places
+pub mod PutLaws
 pub mod Refused
 pub mod Shaped
 pub mod Turns
+pub mod Waiting

@@ -77,11 +77,11 @@ IsTried facts verbose line text old refusal new =
 abbrev pub asks : {S : Type 0} → Ghosts S → List ℕ → List ℕ → Bool
 asks facts line text = not (is_some (name_in (text_words line))) && facts.is_query text
 
--- a query was answered or refused, and the canvas and the names stay
+-- a query was answered or refused, and the names stay
 abbrev pub IsQueryTold : {S : Type 0} → Ghosts S → List ℕ → Sketch S → Option ℕ → Sketch S → Type 0
 IsQueryTold facts text old refusal new =
-    facts.tells old.canvas text refusal old.written new.written
-    × (new.canvas ≡ old.canvas) × (new.names ≡ old.names)
+    facts.tells old.canvas text refusal new.canvas old.written new.written
+    × (new.names ≡ old.names)
 
 -- a line, with this text once its names are resolved, was drawn, or refused with this code
 abbrev pub DrawsText : {S : Type 0} → Ghosts S → Bool → ℕ × List ℕ → Sketch S → Option ℕ → Sketch S

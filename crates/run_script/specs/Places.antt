@@ -88,11 +88,12 @@ pub record IsFirstReading (count : ℕ) (r : Reading) : Type 0 where
   pub blocks : r.blocks.items ≡ []
 
 -- how a call ended that should draw one line or end one turn: it was done, or refused with a code; or
--- memory ran out or the writer failed, and it was done but for what was to be said, or not at all
+-- memory ran out or the writer failed, and it was done but for what was to be said, or nothing was
+-- drawn
 abbrev pub AdvancesTo : {S : Type 0} → Ghosts S → Bool → Progress S
     → Result (Option ℕ) ScriptError → Progress S → Type 0
 AdvancesTo facts verbose old (Ok refusal) new = Advances facts verbose old refusal new
 AdvancesTo {S = S} facts verbose old (Err error) new =
     ((error ≡ OutOfMemory) ⊎ (error ≡ WriterFailed))
-    × ((new.sketch.canvas ≡ old.sketch.canvas) ⊎ ((last : Progress S)
+    × (facts.settles old.sketch.canvas new.sketch.canvas ⊎ ((last : Progress S)
     × Advances facts verbose old None last × (new.sketch.canvas ≡ last.sketch.canvas)))

@@ -1,9 +1,9 @@
 //! Maps in memory, on which a script is tried.
-ghost use Rattle.std.specs.Prelude.{◌≡◌, ◌≤◌};
+ghost use Rattle.std.specs.Prelude.{◌≡◌, ◌≤◌, true, false};
 ghost use Rattle.run_edit.specs.declared.limits.TheConstants.{LONGEST_BODY};
 ghost use Rattle.run_edit.specs.Answers.{ChangesBy, outcome_of};
 ghost use Rattle.map_tables.specs.Projects.{ProjectMaps, body_len, empty_project, project_of};
-ghost use Rattle.run_script.specs.Canvases.{TellsOfMaps, is_query_line};
+ghost use Rattle.run_script.specs.Canvases.{TellsOfDraft, is_query_line};
 
 use crate::asking::{is_query_line, tell_of};
 use crate::canvas::Canvas;
@@ -52,6 +52,9 @@ fn outcome_of(ended: Result<u32, CommandError>) -> Result<u32, u16>
 }
 
 impl Canvas for Draft {
+    ghost use Rattle.std.proofs.Common.{◌∙◌, refl, sym};
+    ghost use Rattle.std.proofs.lemmas.Bool.{true≢false};
+
     ghost changes = { ChangesBy LONGEST_BODY };
 
     ghost maps_in = { λ p. p };
@@ -60,7 +63,19 @@ impl Canvas for Draft {
 
     ghost is_query = { is_query_line };
 
-    ghost tells = { TellsOfMaps };
+    ghost tells = { TellsOfDraft };
+
+    ghost begins = { λ old alone new. new ≡ old };
+
+    ghost settles = { λ old new. new ≡ old };
+
+    ghost loses = { λ old new. ⊥ };
+
+    ghost is_alone = { λ _. true };
+
+    ghost holds_earlier = { λ _. false };
+
+    ghost has_lost = { λ _. false };
 
     fn change(&mut self, line: &[u8]) -> Result<u32, u16> {
         let command = match parse(line) {
@@ -83,11 +98,47 @@ impl Canvas for Draft {
     }
 
     fn tell<W: Write>(
-        &self,
+        &mut self,
         alloc: Global,
         line: &[u8],
         writer: &mut W,
     ) -> Result<Option<u16>, ScriptError> {
         tell_of(alloc, &self.maps, line, writer)
     }
+
+    fn begin_line(&mut self, _alone: bool) -> bool {
+        true
+    }
+
+    fn settle(&mut self) -> bool {
+        true
+    }
+
+    fn holds_earlier(&self) -> bool {
+        false
+    }
+
+    fn has_lost(&self) -> bool {
+        false
+    }
+
+    ghost loss_since = { λ old new last line outcome changed lost. absurd lost };
+
+    ghost loss_within = { λ old new line code changed lost. absurd (true≢false (sym lost)) };
+
+    ghost stays_alone = { λ old new line number changed. (refl, refl) };
+
+    ghost told_all = { λ old new last line refusal u w told lost. lost };
+
+    ghost loss_told = { λ old new line code u w told lost. absurd (true≢false (sym lost)) };
+
+    ghost begun = { λ old new alone is. (
+      refl,
+      λ together. absurd (true≢false together),
+      λ last lost. absurd lost,
+    ) };
+
+    ghost lost_settled = { λ old new lost. absurd lost };
+
+    ghost settled_again = { λ old mid new first then. then ∙ first };
 }

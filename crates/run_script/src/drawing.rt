@@ -1,9 +1,10 @@
 //! Draws a script line by line, up to the first refused line.
-ghost use Rattle.std.specs.Prelude.{◌≡◌, ◌⊎◌, ◌<◌, length, map, vec_len, IfNone, IfOk, IfSome};
+ghost use Rattle.std.specs.Prelude.{◌≡◌, ◌⊎◌, ◌<◌, if◌then◌else◌, length, map, vec_len, Some, IfNone, IfOk, IfSome};
 ghost use Rattle.map_script.specs.Known.{scope_of};
 ghost use Rattle.map_script.specs.Scopes.{first_scope};
 ghost use Rattle.map_script.specs.Views.{seen};
 ghost use Rattle.run_script.specs.Blocks.{with_places};
+ghost use Rattle.run_script.specs.Canvases.{NothingWaits};
 ghost use Rattle.run_script.specs.Drawn.{EndsFrom, IsScriptDrawn, at_first, line_limit};
 ghost use Rattle.run_script.specs.Places.{AdvancesTo, IsFirstReading, IsWithinLines, progress_of};
 
@@ -17,6 +18,7 @@ use crate::reading::{Reading, place_at_hand};
 use map_script::{DrawError, Names, ScriptLine, at_words, loop_words};
 use std::alloc::Global;
 use std::io::Write;
+use store_project::ProjectError;
 
 /// A line of a script that was refused.
 #[derive(Clone, Copy)]
@@ -99,6 +101,41 @@ fn advance<C: Canvas, W: Write>(
     }
 }
 
+// Where the first line stands whose commands wait, behind a line at `place`.
+fn first_place(first: usize, place: usize, holds_earlier: bool) -> usize
+    ensures { result ≡ if holds_earlier then first else place }
+{
+    if holds_earlier { first } else { place }
+}
+
+// What is told where commands were lost that waited from the line at `first` on.
+fn lost_from(first: usize) -> Stop
+    ensures { result ≡ record { place = first; code = 30 } }
+{
+    let code = ProjectError::Device.code();
+    Stop { place: first, code }
+}
+
+// Puts what waits from the line at `first` on, and returns how the drawing ended.
+fn finish<C: Canvas>(canvas: &mut C, ended: Option<Stop>, first: usize) -> Option<Stop>
+    ensures { (C.Canvas.settles canvas.old canvas.new × (result ≡ ended))
+        ⊎ (C.Canvas.loses canvas.old canvas.new
+        × (result ≡ Some (record { place = first; code = 30 }))) }
+{
+    if canvas.settle() {
+        ended
+    } else {
+        Some(lost_from(first))
+    }
+}
+
+// Puts what waits where memory ran out or the writer failed.
+fn cut_off<C: Canvas>(canvas: &mut C)
+    ensures { C.Canvas.settles canvas.old canvas.new ⊎ C.Canvas.loses canvas.old canvas.new }
+{
+    let _ = canvas.settle();
+}
+
 // Draws the lines of a script whose blocks are in order.
 fn draw_all<C: Canvas, W: Write>(
     alloc: Global,
@@ -108,18 +145,23 @@ fn draw_all<C: Canvas, W: Write>(
     is_verbose: bool,
     writer: &mut W,
 ) -> Result<Option<Stop>, ScriptError>
-    requires { scope_of names.old ≡ first_scope }
+    requires first { scope_of names.old ≡ first_scope }
+    requires settled { NothingWaits C.Canvas canvas.old }
     ensures drawn { EndsFrom C.Canvas is_verbose
         (at_first canvas.old (W.contents writer.old) (map seen lines.now))
         (line_limit (map seen lines.now)) result canvas.new (W.contents writer.new) }
     ensures place { IfOk result (λ stop. IfSome stop (λ s. s.place < length lines.now)) }
 {
     let mut reading = first_reading(alloc, lines);
+    let mut first = 0;
     for _count in 0..MORE_LINES + lines.len() {
         let Some(place) = place_at_hand(lines, &reading) else {
-            return Ok(None);
+            return Ok(finish(canvas, None, first));
         };
-        match advance(
+        if !canvas.begin_line(is_verbose) {
+            return Ok(Some(lost_from(first)));
+        }
+        let refusal = match advance(
             alloc,
             canvas,
             names,
@@ -128,25 +170,40 @@ fn draw_all<C: Canvas, W: Write>(
             is_verbose,
             writer,
         ) {
-            Ok(None) => {}
-            Ok(Some(code)) => return Ok(Some(Stop { place, code })),
-            Err(error) => return Err(error),
+            Ok(refusal) => refusal,
+            Err(error) => {
+                cut_off(canvas);
+                return Err(error);
+            }
+        };
+        let before = first;
+        first = first_place(before, place, canvas.holds_earlier());
+        if let Some(code) = refusal {
+            if canvas.has_lost() {
+                return Ok(Some(lost_from(before)));
+            }
+            return Ok(finish(canvas, Some(Stop { place, code }), first));
         }
     }
     match place_at_hand(lines, &reading) {
-        None => Ok(None),
+        None => Ok(finish(canvas, None, first)),
         Some(place) => {
             let code = DrawError::TooManyLines.code();
-            Ok(Some(Stop { place, code }))
+            Ok(finish(canvas, Some(Stop { place, code }), first))
         }
     }
 }
 
 /// Draws the lines of a script in order onto a project, or onto maps in memory: resolves the names in each line, and
 /// draws it, up to the first refused line. The lines of a loop's block are drawn once for each of its numbers, those of
-/// an `at` with their places placed. In a project each command is on the disk before the next line is resolved.
+/// an `at` with their places placed.
 ///
-/// Answers to queries are written; for commands `NUMBER: ok N` is written if `is_verbose`. `names` must be empty at
+/// Answers to queries are written; for commands `NUMBER: ok N` is written if `is_verbose`. In a project the commands
+/// before a query are on the disk before it is answered, and so is a command whose answer is written. All others may
+/// wait, and go to the disk together; if that fails, the first line of those that were to go is refused (30), and none
+/// of them is drawn.
+///
+/// `names` must be empty at
 /// first; after the call it has the names that the drawn lines gave. If the blocks are out of order, the script is
 /// refused (47), and nothing is drawn.
 ///
@@ -161,7 +218,8 @@ pub fn draw<C: Canvas, W: Write>(
     is_verbose: bool,
     writer: &mut W,
 ) -> Result<Option<Stop>, ScriptError>
-    requires { scope_of names.old ≡ first_scope }
+    requires first { scope_of names.old ≡ first_scope }
+    requires settled { NothingWaits C.Canvas canvas.old }
     ensures drawn { IsScriptDrawn C.Canvas is_verbose (map seen lines.now) result
         canvas.old (W.contents writer.old) canvas.new (W.contents writer.new) }
     ensures place { IfOk result (λ stop. IfSome stop (λ s. s.place < length lines.now)) }

@@ -26,4 +26,5 @@ pub use canvas::Canvas;
 pub use draft::Draft;
 pub use drawing::{Stop, draw};
 pub use error::ScriptError;
+pub use project_canvas::ProjectCanvas;
 pub use refused::write_refused;

@@ -38,7 +38,7 @@ fn draw_other<C: Canvas, W: Write>(
         (λ refusal. DrawsOther C.Canvas is_verbose (seen line.now) old refusal
         (sketch_of canvas.new (scope_of names.new) (W.contents writer.new)))
         (λ e. ((e ≡ OutOfMemory) ⊎ (e ≡ WriterFailed))
-        × ((canvas.new ≡ canvas.old) ⊎ ((new : Sketch C)
+        × (C.Canvas.settles canvas.old canvas.new ⊎ ((new : Sketch C)
         × DrawsOther C.Canvas is_verbose (seen line.now) old None new
         × (canvas.new ≡ new.canvas)))) }
 {
@@ -68,7 +68,7 @@ fn draw_let<C: Canvas>(alloc: Global, canvas: &C, names: &mut Names, words: &[u8
 ///
 /// # Errors
 ///
-/// `OutOfMemory` and `WriterFailed`; a command was then done, or nothing was changed.
+/// `OutOfMemory` and `WriterFailed`; a command was then done, or nothing was drawn.
 pub fn draw_line<C: Canvas, W: Write>(
     alloc: Global,
     canvas: &mut C,
@@ -82,7 +82,7 @@ pub fn draw_line<C: Canvas, W: Write>(
         (λ refusal. DrawsLine C.Canvas is_verbose (seen line.now) old refusal
         (sketch_of canvas.new (scope_of names.new) (W.contents writer.new)))
         (λ e. ((e ≡ OutOfMemory) ⊎ (e ≡ WriterFailed))
-        × ((canvas.new ≡ canvas.old) ⊎ ((new : Sketch C)
+        × (C.Canvas.settles canvas.old canvas.new ⊎ ((new : Sketch C)
         × DrawsLine C.Canvas is_verbose (seen line.now) old None new
         × (canvas.new ≡ new.canvas)))) }
 {

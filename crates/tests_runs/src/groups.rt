@@ -9,8 +9,8 @@ use store_disk::{Disk, FaultDisk, MemoryDisk};
 use store_project::{Geometry, Project};
 use tests_store::small::{FILLS, created, found, vertices};
 
-// A journal that 34 lines of 10 bytes fill.
-const GEOMETRY: Geometry = Geometry {
+/// A journal that 34 lines of 10 bytes fill.
+pub const GEOMETRY: Geometry = Geometry {
     slot: 1024,
     journal: 512,
 };
@@ -25,8 +25,8 @@ const RUNS: &[(u32, &[u32], &[u32])] = &[
     (100, &[0, 34, 35, 68, 69, 100], &[40]),
 ];
 
-// The lines that draw so many vertices.
-fn input(alloc: Global, count: u32) -> Result<Vec<u8>, Fail> {
+/// The lines that draw so many vertices.
+pub fn input(alloc: Global, count: u32) -> Result<Vec<u8>, Fail> {
     let mut lines = Vec::new(alloc);
     for n in 0..count {
         let line = format!(in alloc; "vertex {} {}\n", n / 10, n % 10)?;
@@ -92,8 +92,13 @@ fn is_either<D: Disk + Drop>(
     Ok(count == kept || next.is_some_and(|n| *n == count))
 }
 
-// The same after stops of all kinds.
-fn are_either(alloc: Global, disk: &MemoryDisk, kept: u32, counts: &[u32]) -> Result<bool, Fail> {
+/// The same after stops of all kinds.
+pub fn are_either(
+    alloc: Global,
+    disk: &MemoryDisk,
+    kept: u32,
+    counts: &[u32],
+) -> Result<bool, Fail> {
     for &fill in FILLS {
         if !is_either(alloc, disk.stop(alloc, fill, false)?, kept, counts)?
             || !is_either(alloc, disk.stop(alloc, fill, true)?, kept, counts)?

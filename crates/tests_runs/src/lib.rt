@@ -6,6 +6,8 @@ mod answers;
 #[cfg(test)]
 mod builds;
 #[cfg(test)]
+mod drawn_groups;
+#[cfg(test)]
 mod editor;
 #[cfg(test)]
 mod expect;

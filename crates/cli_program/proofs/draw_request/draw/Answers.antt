@@ -1,5 +1,9 @@
-use Rattle.std.proofs.Common.{inl, inr}
+use Rattle.std.proofs.Common.{◌∙◌, ap, inl, inr, subst}
 use Rattle.std.proofs.KnownBytes.{Keeps-refl}
+use Rattle.store_project.specs.States.{State}
+use Rattle.run_script.specs.Canvases.{project_canvas}
+use Rattle.run_script.specs.Waiting.{Drawing}
+use Rattle.cli_program.specs.Drawing.{IsDrawnOnto}
 use Rattle.cli_program.proofs.Sources.{no_status}
 use Rattle.cli_program.proofs.draw_request.draw.Goals as goal
 
@@ -12,4 +16,7 @@ returns-in-Err-clause-drawn g c = rw c.not_opened.ensures.disk (inl ((c.in-Err.r
 
 pub returns-clause-drawn : goal.returns-clause-drawn
 returns-clause-drawn g c =
-    inr (c.in-Ok.project, c.draw_onto-how.new.canvas, c.in-Ok.ensures.opened, c.into_disk.ensures.disk, c.draw_onto-how.ensures.drawn)
+    inr (c.in-Ok.project, c.draw_onto-how.new.canvas, c.in-Ok.ensures.opened,
+    c.into_disk.ensures.disk ∙ ap (λ (s : State _). s.disk) c.into_project-project.ensures,
+    subst (λ (d : Drawing _). IsDrawnOnto (project_canvas g.D.Disk) c.args.script.is_verbose c.args.script.text.now c.draw_onto-how.result d c.draw_onto-how.new.canvas
+    (g.W.Write.contents c.args.writer.now) (g.W.Write.contents c.draw_onto-how.new.writer)) c.new-canvas.ensures.first c.draw_onto-how.ensures.drawn)
