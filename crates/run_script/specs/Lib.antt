@@ -1,11 +1,15 @@
 pub mod Blocks
+pub mod Calls
 pub mod Canvases
+pub mod Defined
 pub mod Drawn
 pub mod Errors
 pub mod Given
 pub mod Lines
 pub mod Names
+pub mod Opened
 pub mod Places
 pub mod Refused
 pub mod Shaped
+pub mod ShapePlaces
 pub mod Turns

@@ -7,12 +7,13 @@ use Rattle.map_script.specs.declared.script.ScriptLine.{ScriptLine}
 use Rattle.run_script.specs.Blocks.{with_places}
 use Rattle.run_script.specs.Drawn.{ComesTo, at_first, line_limit}
 use Rattle.run_script.specs.Places.{progress_of}
+use Rattle.run_script.specs.ShapePlaces.{shapes_among}
 use Rattle.run_script.proofs.Progressing.{ComesTo-more, at_start, cut_off_at, start_within}
 use Rattle.run_script.proofs.drawing.draw_all.Goals as goal
 
 pub loop-count-init : goal.loop-count-init
 loop-count-init g c = record {
-  reached = at_start c.args.canvas.now c.args.names.now (g.W.Write.contents c.args.writer.now) c.args.lines.now c.first_reading-reading.result c.requires
+  reached = at_start c.args.canvas.now c.args.names.now (g.W.Write.contents c.args.writer.now) c.args.lines.now c.first_reading-reading.result c.requires.first
       c.first_reading-reading.ensures;
   within = start_within (length c.args.lines.now) c.first_reading-reading.result c.first_reading-reading.ensures;
 }
@@ -23,7 +24,7 @@ loop-count-preserved g c =
     let advanced = rw c.in-Ok-None.field-0-is at c.in-Ok-None.ensures.advanced in
     let within = rw c.in-Ok-None.field-0-is at c.in-Ok-None.ensures.within in
     record {
-      reached = ComesTo-more g.C.Canvas c.args.is_verbose (at_first c.args.canvas.now (g.W.Write.contents c.args.writer.now) (map seen c.args.lines.now))
+      reached = ComesTo-more g.C.Canvas c.args.is_verbose (shapes_among all c.args.shapes.now) (at_first c.args.canvas.now (g.W.Write.contents c.args.writer.now) (map seen c.args.lines.now))
           (progress_of all c.loop-count.canvas (scope_of c.loop-count.names) (g.W.Write.contents c.loop-count.writer) c.loop-count.reading)
           (progress_of all c.advance.new.canvas (scope_of c.advance.new.names) (g.W.Write.contents c.advance.new.writer) c.advance.new.reading)
           c.loop-count._count c.loop-count.invariant.reached advanced;
@@ -66,7 +67,7 @@ pub returns-in-Err-clause-drawn : goal.returns-in-Err-clause-drawn
 returns-in-Err-clause-drawn g c =
     let all : List (ℕ × (ℕ × List ℕ)) = with_places (map seen c.args.lines.now) in (
       c.in-Err.ensures.advanced.0,
-      cut_off_at g.C.Canvas c.args.is_verbose (at_first c.args.canvas.now (g.W.Write.contents c.args.writer.now) (map seen c.args.lines.now))
+      cut_off_at g.C.Canvas c.args.is_verbose (shapes_among all c.args.shapes.now) (at_first c.args.canvas.now (g.W.Write.contents c.args.writer.now) (map seen c.args.lines.now))
           (progress_of all c.loop-count.canvas (scope_of c.loop-count.names) (g.W.Write.contents c.loop-count.writer) c.loop-count.reading)
           c.advance.new.canvas c.loop-count._count c.loop-count.invariant.reached c.in-Err.ensures.advanced.1,
     )

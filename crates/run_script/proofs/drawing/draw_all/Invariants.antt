@@ -4,12 +4,13 @@ use Rattle.map_script.specs.Views.{seen}
 use Rattle.run_script.specs.Blocks.{with_places}
 use Rattle.run_script.specs.Drawn.{ComesTo, at_first}
 use Rattle.run_script.specs.Places.{IsWithinLines, progress_of}
+use Rattle.run_script.specs.ShapePlaces.{shapes_among}
 use Rattle.run_script.proofs.drawing.draw_all.Given as goal
 
 -- so many lines were drawn and turns ended
 abbrev pub invariant-loop-count : goal.invariant-loop-count
 invariant-loop-count g l = record {
-  reached : ComesTo g.C.Canvas l.is_verbose (at_first l.fn.canvas (g.W.Write.contents l.fn.writer) (map seen l.lines)) l._count
+  reached : ComesTo g.C.Canvas l.is_verbose (shapes_among (with_places (map seen l.lines)) l.shapes) (at_first l.fn.canvas (g.W.Write.contents l.fn.writer) (map seen l.lines)) l._count
       (progress_of (with_places (map seen l.lines)) l.canvas (scope_of l.names) (g.W.Write.contents l.writer) l.reading);
   within : IsWithinLines (length l.lines) l.reading;
 }
