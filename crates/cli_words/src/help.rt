@@ -207,7 +207,7 @@ and 70 to 78 from a WAD. What is wrong, or what to do about it:
 44 BadGeometry         a slot has 33 to 2007015 bytes, a journal 512 to 1048576
 45 NothingThere        in a script: look at `picture --numbers`, or draw it first
 46 BadSum              in a script: correct the sum that the line below names
-47 OpenBlock           in a script: give each `for` its `end`
+47 OpenBlock           in a script: give each `for`, `at`, `define` its `end`
 48 TooManyLines        in a script: let the loops have fewer turns
 50 LumpLength          the WAD is damaged
 60 NothingToBuild      a map has no line: draw one, or drop the map

@@ -1,6 +1,9 @@
 pub mod Cleaning
+pub mod Hiding
 pub mod Holding
+pub mod Layering
 pub mod Leasts
+pub mod Leaving
 pub mod PlacedTwice
 pub mod PlacedWords
 pub mod Replacing

@@ -7,7 +7,7 @@ use Rattle.map_tables.specs.Tables.{Tables}
 use Rattle.map_script.proofs.Leasts.{ltb_yes}
 use Rattle.map_tables.specs.declared.kind.Kind.{Kind}
 use Rattle.map_script.specs.Meant.{meant_by}
-use Rattle.map_script.specs.Scopes.{Scope}
+use Rattle.map_script.specs.Scopes.{Scope, visible}
 use Rattle.map_script.specs.Names.{number_for}
 use Rattle.map_script.specs.Cuts.{behind_byte, cut_place, cuts, has_operand, inside, is_sign, last_cut}
 use Rattle.map_script.specs.Reckoned.{item_of_place, negated, number_in_text, reckoned_of}
@@ -94,16 +94,16 @@ pub at_place : (part : List ℕ → Result ℤ DrawError) (scope : Scope) (m : T
 at_place part scope m text bs k x y r begun at is =
     is
     ∙ sym (ap (referred_value part scope m text) begun
-    ∙ ap (λ (p : Option (Kind × List ℕ × List ℕ)). place_value part scope.placing m p (reference_value (meant_by scope.names bs) (number_for scope m bs))) at)
+    ∙ ap (λ (p : Option (Kind × List ℕ × List ℕ)). place_value part scope.placing m p (reference_value (meant_by (visible scope) bs) (number_for scope m bs))) at)
 
 -- another reference
 pub by_reference : (part : List ℕ → Result ℤ DrawError) (scope : Scope) (m : Tables) (text bs : List ℕ) (r : Result ℤ DrawError)
     → behind_byte 36 text ≡ Some bs → place_of_sums (number_for scope m bs) bs ≡ None
-    → r ≡ reference_value (meant_by scope.names bs) (number_for scope m bs) → r ≡ operand_value part scope m text
+    → r ≡ reference_value (meant_by (visible scope) bs) (number_for scope m bs) → r ≡ operand_value part scope m text
 by_reference part scope m text bs r begun none is =
     is
     ∙ sym (ap (referred_value part scope m text) begun
-    ∙ ap (λ (p : Option (Kind × List ℕ × List ℕ)). place_value part scope.placing m p (reference_value (meant_by scope.names bs) (number_for scope m bs))) none)
+    ∙ ap (λ (p : Option (Kind × List ℕ × List ℕ)). place_value part scope.placing m p (reference_value (meant_by (visible scope) bs) (number_for scope m bs))) none)
 
 -- an operand with a `-` in front
 pub with_minus : (part : List ℕ → Result ℤ DrawError) (scope : Scope) (m : Tables) (text bs : List ℕ) (r : Result ℤ DrawError)

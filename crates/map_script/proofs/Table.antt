@@ -4,8 +4,8 @@ use Rattle.std.specs.Prelude.{bytes_eq, Vec}
 use Rattle.std.specs.Map.{lookup}
 use Rattle.std.specs.Global.{Global}
 use Rattle.indexmap.specs.IndexMap.{insert_entry}
-use Rattle.map_script.specs.Known.{known_entry, meant, meant_in}
-use Rattle.map_script.specs.Meant.{Meant, meant_by, with_meaning}
+use Rattle.map_script.specs.Frames.{known_entry}
+use Rattle.map_script.specs.Meant.{Meant, meant, meant_by, meant_in, with_meaning}
 use Rattle.map_script.specs.declared.meaning.Meaning.{Meaning}
 
 found-by : (t : Bool) (m : Meaning) (found : Option Meaning) (other : Option Meant) → meant_in found ≡ other

@@ -1,8 +1,12 @@
 pub mod Ats
 pub mod Cuts
+pub mod Defines
 pub mod Errors
 pub mod Firsts
+pub mod Frames
+pub mod Held
 pub mod Known
+pub mod Layers
 pub mod Lines
 pub mod Loops
 pub mod Meant

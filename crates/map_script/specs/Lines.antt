@@ -9,7 +9,7 @@ use Rattle.map_script.specs.Meant.{Meant, meant_by, worded}
 use Rattle.map_script.specs.Names.{is_no_reference, is_script_name, number_for}
 use Rattle.map_script.specs.Own.{is_own_word}
 use Rattle.map_script.specs.Placed.{placed_line}
-use Rattle.map_script.specs.Scopes.{Scope, with_let}
+use Rattle.map_script.specs.Scopes.{Scope, visible, with_let}
 use Rattle.map_script.specs.Sums.{sum_value}
 use Rattle.map_script.specs.Texts.{with_word}
 use Rattle.map_script.specs.Words.{text_words}
@@ -62,7 +62,7 @@ abbrev pub reckoned_word : Scope → Tables → List ℕ → Result (List ℕ) D
 reckoned_word scope m [] = Ok []
 reckoned_word scope m (b ∷ bs) =
     if b == 36
-    then named_word scope m (b ∷ bs) (meant_by scope.names bs) (number_for scope m bs)
+    then named_word scope m (b ∷ bs) (meant_by (visible scope) bs) (number_for scope m bs)
     else sum_word (sum_value 65 scope m (b ∷ bs))
 
 -- a word or a VALUE

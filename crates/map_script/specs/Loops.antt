@@ -3,6 +3,7 @@ use Rattle.std.specs.Prelude.{ℕ, ℤ, Bool, ◌&&◌, ◌||◌, not, if◌then
 use Rattle.std.specs.Option.{is_none, is_some}
 use Rattle.map_tables.specs.Tables.{Tables}
 use Rattle.map_script.specs.Ats.{at_words}
+use Rattle.map_script.specs.Defines.{define_words}
 use Rattle.map_script.specs.Lines.{joined_line, name_in, words_for}
 use Rattle.map_script.specs.Names.{is_script_name}
 use Rattle.map_script.specs.Own.{is_own_word}
@@ -21,7 +22,9 @@ loop_words (w ∷ ws) =
 
 -- a line opens a block
 abbrev pub opens : List ℕ → Bool
-opens line = is_some (loop_words (text_words line)) || is_some (at_words (text_words line))
+opens line =
+    is_some (loop_words (text_words line))
+    || (is_some (at_words (text_words line)) || is_some (define_words (text_words line)))
 
 -- a line closes a block
 abbrev pub closes : List ℕ → Bool

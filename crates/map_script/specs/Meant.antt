@@ -2,11 +2,21 @@
 use Rattle.std.specs.Prelude.{ℕ, if◌then◌else◌, List, [], ◌∷◌, Option, Some, None, bytes_eq, decimal}
 use Rattle.map_script.specs.declared.firsts.Firsts.{Firsts}
 use Rattle.map_script.specs.declared.firsts.Numbers.{Numbers}
+use Rattle.map_script.specs.declared.meaning.Meaning.{Meaning}
 
 -- what a name stands for
 pub record Meant : Type 0 where
   pub words : List ℕ
   pub firsts : Firsts
+
+-- the same of what a name stands for
+abbrev pub meant : Meaning → Meant
+meant meaning = record { words = meaning.words.items; firsts = meaning.firsts }
+
+-- the same, if there is such a name
+abbrev pub meant_in : Option Meaning → Option Meant
+meant_in None = None
+meant_in (Some meaning) = Some (meant meaning)
 
 -- no item
 abbrev pub no_firsts : Firsts

@@ -15,7 +15,7 @@ use Rattle.map_plane.specs.Places.{placed_lines}
 use Rattle.map_script.specs.Firsts.{first_of}
 use Rattle.map_script.specs.Meant.{Meant, meant_by}
 use Rattle.map_script.specs.Placings.{is_coordinate_word, place_of, placed_vertex}
-use Rattle.map_script.specs.Scopes.{Scope}
+use Rattle.map_script.specs.Scopes.{Scope, visible}
 use Rattle.map_script.specs.declared.error.DrawError.{DrawError}
 use Rattle.map_script.specs.declared.error.DrawError.TheVariants.{NotAReference, UnknownName, NothingAdded, NumberTooLarge, NothingThere}
 use Rattle.map_script.specs.declared.firsts.Firsts.{Firsts}
@@ -96,7 +96,7 @@ abbrev pub number_by : Scope → List ℕ → Option (List ℕ) → Option (List
     → Result ℕ DrawError
 number_by scope name kind more =
     if is_script_name name && (is_kind_part kind && is_sum_part more)
-    then number_in (meant_by scope.names name) kind more
+    then number_in (meant_by (visible scope) name) kind more
     else Err NotAReference
 
 -- ---- KIND(X,Y)

@@ -5,7 +5,7 @@ use Rattle.map_tables.specs.declared.kind.Kind.{Kind}
 use Rattle.map_script.specs.Cuts.{behind_byte, cut_place, inside, place_parts}
 use Rattle.map_script.specs.Meant.{Meant, meant_by}
 use Rattle.map_script.specs.Names.{is_no_reference, number_for}
-use Rattle.map_script.specs.Scopes.{Scope}
+use Rattle.map_script.specs.Scopes.{Scope, visible}
 use Rattle.map_script.specs.Reckoned.{counted, item_of_place, negated, number_in_text, reckoned_of}
 use Rattle.map_script.specs.declared.error.DrawError.{DrawError}
 use Rattle.map_script.specs.declared.error.DrawError.TheVariants.{TooDeep}
@@ -38,7 +38,7 @@ abbrev pub referred_value : (List ℕ → Result ℤ DrawError) → Scope → Ta
     → List ℕ → Option (List ℕ) → Result ℤ DrawError
 referred_value part scope m text (Some bs) =
     place_value part scope.placing m (place_of_sums (number_for scope m bs) bs)
-    (reference_value (meant_by scope.names bs) (number_for scope m bs))
+    (reference_value (meant_by (visible scope) bs) (number_for scope m bs))
 referred_value part scope m text None = number_value part text (behind_byte 45 text)
 
 -- the value of an operand

@@ -14,3 +14,8 @@ is_some_text (b ∷ bs) = true
 -- the words of a text, which blanks separate
 abbrev pub text_words : List ℕ → List (List ℕ)
 text_words text = filter is_some_text (slice_split is_blank text)
+
+-- the first of some words, empty if there is none
+abbrev pub first_word : List (List ℕ) → List ℕ
+first_word [] = []
+first_word (w ∷ ws) = w

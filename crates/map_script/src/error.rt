@@ -15,12 +15,16 @@ pub enum DrawError {
     NotALoop,
     /// Behind `at` stand not two or three numbers.
     NotAnAt,
+    /// Behind `define` stands no name.
+    NotADefine,
+    /// A shape is drawn with more or fewer words than it has parameters.
+    NotItsWords,
     /// The place of an `at` is none of the map.
     OutsideMap,
     /// The angle of an `at` is no quarter turn, or two, three or none.
     NotAQuarter,
-    /// In `NAME = COMMAND` the word before `=` is no name, or that of a `let` or a `for` is none or a word of the
-    /// language.
+    /// In `NAME = COMMAND` the word before `=` is no name, or that of a `let`, a `for` or a `define` is none or a word
+    /// of the language.
     NotAName,
     /// A word that begins with `$` isn't `$NAME`, `$NAME.KIND` or `$KIND(X,Y)`, with or without `+N` after it.
     NotAReference,
@@ -40,9 +44,10 @@ pub enum DrawError {
     TooGreat,
     /// The parts of a sum nest more than 64 deep.
     TooDeep,
-    /// A block has no end, an `end` has no block, or blocks stand within blocks more than 64 deep.
+    /// A block has no end, an `end` has no block, a `define` stands in a block, or blocks stand within blocks more than
+    /// 64 deep.
     OpenBlock,
-    /// The turns of loops draw more lines than a script may.
+    /// The turns of loops and the shapes draw more lines than a script may.
     TooManyLines,
     OutOfMemory,
 }
@@ -94,6 +99,8 @@ impl DrawError {
             DrawError::NotALet => (1, "a name and one or more words stand behind let"),
             DrawError::NotALoop => (1, "a name and two numbers stand behind for"),
             DrawError::NotAnAt => (1, "two or three numbers stand behind at"),
+            DrawError::NotADefine => (1, "a name stands behind define"),
+            DrawError::NotItsWords => (1, "a shape has as many words as its define names"),
             DrawError::OutsideMap => (2, "at moves 0 0 to a place from -16384 to 16383"),
             DrawError::NotAQuarter => (2, "ANGLE is 0, 90, 180 or 270"),
             DrawError::NotAName => (20, "a name is a letter, then letters, digits and _"),
@@ -111,9 +118,9 @@ impl DrawError {
             DrawError::TooDeep => (46, "the parts of the sum nest more than 64 deep"),
             DrawError::OpenBlock => (
                 47,
-                "a for or an at without its end, an end without them, or blocks more than 64 deep",
+                "a block without its end, an end without a block, a define in a block, or blocks more than 64 deep",
             ),
-            DrawError::TooManyLines => (48, "the turns of loops draw more than 1000000 lines"),
+            DrawError::TooManyLines => (48, "loops and shapes draw more than 1000000 lines"),
             DrawError::OutOfMemory => (31, "out of memory"),
         }
     }

@@ -4,8 +4,11 @@
 
 mod at_lines;
 mod cutting;
+mod defining;
 mod error;
 mod firsts;
+mod frame;
+mod held;
 mod letting;
 mod looping;
 mod meaning;
@@ -22,6 +25,7 @@ mod text;
 mod words;
 
 pub use at_lines::{at_placing, at_words};
+pub use defining::{call_words, define_fault, define_words, give_parameters};
 pub use error::DrawError;
 pub use firsts::{Firsts, ItemCounts, Numbers, counts_of, firsts_of, firsts_since};
 pub use letting::{give_words, let_words};
@@ -31,3 +35,4 @@ pub use names::{Mark, Names};
 pub use placing::{Facing, Placing};
 pub use resolving::{defined_name, resolve};
 pub use script::{ScriptLine, script_lines};
+pub use words::first_word;

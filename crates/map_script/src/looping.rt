@@ -6,6 +6,7 @@ ghost use Rattle.map_script.specs.Loops.{closes, loop_name, loop_range, loop_wor
 ghost use Rattle.map_script.specs.Words.{text_words};
 
 use crate::at_lines::at_words;
+use crate::defining::define_words;
 use crate::error::DrawError;
 use crate::names::Names;
 use crate::own_words::is_own_word;
@@ -40,7 +41,7 @@ pub fn loop_words(line: &[u8]) -> Option<&[u8]>
 pub fn opens(line: &[u8]) -> bool
     ensures { result ≡ opens line.now }
 {
-    loop_words(line).is_some() || at_words(line).is_some()
+    loop_words(line).is_some() || at_words(line).is_some() || define_words(line).is_some()
 }
 
 /// Whether a cleaned line closes a block.

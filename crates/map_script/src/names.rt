@@ -1,27 +1,23 @@
 //! The names that lines of a script define, and what they stand for.
-ghost use Rattle.std.specs.Prelude.{◌≡◌, ◌<◌, length, IfSome};
-ghost use Rattle.map_script.specs.Known.{newest_of};
+ghost use Rattle.std.specs.Prelude.{◌≡◌, [], option_copied};
+ghost use Rattle.map_script.specs.Frames.{layers_in_front};
+ghost use Rattle.map_script.specs.Layers.{layered};
+ghost use Rattle.map_script.specs.Meant.{meant_by, meant_in};
 
 use crate::error::DrawError;
-use crate::firsts::{Firsts, NO_FIRSTS, Numbers};
+use crate::firsts::{NO_FIRSTS, Numbers};
+use crate::frame::Frame;
 use crate::meaning::Meaning;
 use crate::placing::{Placing, UNPLACED};
-use crate::text::copied;
-use indexmap::IndexMap;
 use std::alloc::Global;
-
-/// A name that a block holds, and what it stands for until the block ends.
-#[derive(Drop)]
-pub struct Held {
-    name: Vec<u8>,
-    meaning: Meaning,
-}
 
 /// What a block leaves as it was when it ends.
 #[derive(Clone, Copy)]
 pub struct Mark {
     /// How many names blocks held.
     pub held: usize,
+    /// How many shapes were being drawn.
+    pub shapes: usize,
     /// How lines were placed.
     pub placing: Placing,
     /// Whether a block was open.
@@ -29,71 +25,47 @@ pub struct Mark {
 }
 
 /// The names defined so far, and how the open blocks place a line. A name that is defined again stands for what is
-/// newer. Names of open blocks, the newest last, hide those of the script, and go with their block.
+/// newer. Names of open blocks, the newest last, hide those of the script, and go with their block. A shape has names
+/// of its own, which hide those of outside and go when its drawing ends.
 #[derive(Drop)]
 pub struct Names {
-    table: IndexMap<Vec<u8>, Meaning>,
-    held: Vec<Held>,
+    own: Frame,
+    outer: Vec<Frame>,
     placing: Placing,
     is_within: bool,
 }
 
-// The index of the newest held name that is this one.
-#[tactic(auto, using(crate::proofs::Holding::newest_more, crate::proofs::Holding::newest_all))]
-fn newest_of(held: &[Held], name: &[u8]) -> Option<usize>
-    ensures newest { result ≡ newest_of held.now name.now }
-    ensures within { IfSome result (λ i. i < length held.now) }
+// What a name stands for in the last frame that has it.
+#[tactic(auto, using(crate::proofs::Layering::found_more, crate::proofs::Layering::found_all))]
+fn find_in<'a>(frames: &'a [Frame], name: &[u8]) -> Option<&'a Meaning>
+    ensures { meant_in (option_copied result)
+        ≡ meant_by (layered (layers_in_front frames.now [])) name.now }
 {
-    let mut newest = None;
-    for (i, entry) in held.iter().enumerate() {
-        if name == entry.name.as_slice() {
-            newest = Some(i);
+    let mut found = None;
+    for frame in frames {
+        if let Some(meaning) = frame.find(name) {
+            found = Some(meaning);
         }
     }
-    newest
+    found
 }
 
 impl Names {
     ghost use Rattle.std.specs.Prelude.{◌≡◌, IfOk, IsOkUnless, OnErr, option_copied};
     ghost use Rattle.map_script.specs.declared.error.DrawError.TheVariants.{OutOfMemory};
-    ghost use Rattle.map_script.specs.Known.{known, meant_in, scope_of};
-    ghost use Rattle.map_script.specs.Meant.{meant_by, numbered, with_meaning, worded};
-    ghost use Rattle.map_script.specs.Scopes.{first_scope, mark_of, released, with_given, with_block, with_held, with_let, with_turn_name};
+    ghost use Rattle.map_script.specs.Known.{scope_of};
+    ghost use Rattle.map_script.specs.Meant.{meant_by, meant_in, numbered, worded};
+    ghost use Rattle.map_script.specs.Scopes.{first_scope, left, mark_of, released, visible, with_given, with_block, with_held, with_let, with_shape, with_turn_name};
 
     /// Without any name. It allocates no memory.
     pub fn new(alloc: Global) -> Self
         ensures { scope_of result ≡ first_scope }
     {
         Names {
-            table: IndexMap::new(alloc),
-            held: Vec::new(alloc),
+            own: Frame::new(alloc),
+            outer: Vec::new(alloc),
             placing: UNPLACED,
             is_within: false,
-        }
-    }
-
-    // Defines a name by words and first items, where it is held, else in the script.
-    fn put(
-        &mut self,
-        alloc: Global,
-        name: &[u8],
-        words: &[u8],
-        firsts: Firsts,
-    ) -> Result<(), DrawError>
-        ensures ok { IfOk result (λ _. scope_of self.new ≡ with_given (scope_of self.old) name.now
-            (record { words = words.now; firsts = firsts })) }
-        ensures memory { IsOkUnless result OutOfMemory }
-        ensures refused { OnErr result (scope_of self.new ≡ scope_of self.old) }
-    {
-        let words = copied(alloc, words)?;
-        if let Some(i) = newest_of(&self.held, name) {
-            self.held[i].meaning = Meaning { words, firsts };
-            return Ok(());
-        }
-        let name = copied(alloc, name)?;
-        match self.table.insert(name, Meaning { words, firsts }) {
-            Ok(_) => Ok(()),
-            Err(_) => Err(DrawError::OutOfMemory),
         }
     }
 
@@ -110,7 +82,8 @@ impl Names {
     {
         let answer = numbers.answer;
         let digits = format!(in alloc; "{answer}")?;
-        self.put(alloc, name, digits.as_bytes(), numbers.firsts)
+        self.own
+            .give(alloc, name, digits.as_bytes(), numbers.firsts)
     }
 
     /// Defines a name that stands for words, separated by single spaces. Where a block is open, the block holds it.
@@ -130,27 +103,24 @@ impl Names {
         ensures refused { OnErr result (scope_of self.new ≡ scope_of self.old) }
     {
         if self.is_within {
-            self.hold(alloc, name, words)
+            self.own.hold(alloc, name, words, NO_FIRSTS)
         } else {
-            self.put(alloc, name, words, NO_FIRSTS)
+            self.own.give(alloc, name, words, NO_FIRSTS)
         }
     }
 
-    // Holds a name that stands for words, for the open block.
-    fn hold(&mut self, alloc: Global, name: &[u8], words: &[u8]) -> Result<(), DrawError>
+    /// Holds a name that stands for words, until the block ends.
+    ///
+    /// # Errors
+    ///
+    /// `OutOfMemory`: the names are unchanged.
+    pub fn hold(&mut self, alloc: Global, name: &[u8], words: &[u8]) -> Result<(), DrawError>
         ensures ok { IfOk result
             (λ _. scope_of self.new ≡ with_held (scope_of self.old) name.now (worded words.now)) }
         ensures memory { IsOkUnless result OutOfMemory }
         ensures refused { OnErr result (scope_of self.new ≡ scope_of self.old) }
     {
-        let name = copied(alloc, name)?;
-        let words = copied(alloc, words)?;
-        let firsts = NO_FIRSTS;
-        self.held.push(Held {
-            name,
-            meaning: Meaning { words, firsts },
-        })?;
-        Ok(())
+        self.own.hold(alloc, name, words, NO_FIRSTS)
     }
 
     /// Holds the name of a loop, which stands for the number of its turn, until the turn ends.
@@ -168,22 +138,37 @@ impl Names {
         self.hold(alloc, name, digits.as_bytes())
     }
 
-    /// How many names blocks hold, how lines are placed, and whether a block is open.
+    /// How many names blocks hold, how many shapes are being drawn, how lines are placed, and whether a block is open.
     pub fn mark(&self) -> Mark
         ensures { result ≡ mark_of (scope_of self.now) }
     {
         Mark {
-            held: self.held.len(),
+            held: self.own.held.len(),
+            shapes: self.outer.len(),
             placing: self.placing,
             is_within: self.is_within,
         }
     }
 
-    /// Lets go of the newest held names, but for as many as at a mark. All else is as there.
+    // Lets go of the names of the innermost shape, if more shapes than so many are being drawn.
+    fn leave_shape(&mut self, shapes: usize)
+        ensures { scope_of self.new ≡ left (scope_of self.old) shapes }
+    {
+        if self.outer.len() <= shapes {
+            return;
+        }
+        if let Some(frame) = self.outer.pop() {
+            self.own = frame;
+        }
+    }
+
+    /// Ends the innermost block, which began at a mark: lets go of the names of its shape, if it is one's, and of the
+    /// newest held names, but for as many as at the mark. All else is as there.
     pub fn release(&mut self, mark: Mark)
         ensures { scope_of self.new ≡ released (scope_of self.old) mark }
     {
-        self.held.truncate(mark.held);
+        self.leave_shape(mark.shapes);
+        self.own.release(mark.held);
         self.placing = mark.placing;
         self.is_within = mark.is_within;
     }
@@ -203,13 +188,32 @@ impl Names {
         self.is_within = true;
     }
 
+    /// The drawing of a shape begins, which has no name of its own yet.
+    ///
+    /// # Errors
+    ///
+    /// `OutOfMemory`: the names are unchanged.
+    pub fn enter_shape(&mut self, alloc: Global) -> Result<(), DrawError>
+        ensures ok { IfOk result (λ _. scope_of self.new ≡ with_shape (scope_of self.old)) }
+        ensures memory { IsOkUnless result OutOfMemory }
+        ensures refused { OnErr result (scope_of self.new ≡ scope_of self.old) }
+    {
+        self.outer.reserve(1)?;
+        let outer = std::mem::replace(&mut self.own, Frame::new(alloc));
+        match self.outer.push(outer) {
+            Ok(()) => Ok(()),
+            Err(_) => unreachable!(),
+        }
+    }
+
     /// What a name stands for, if it is defined.
     pub fn find(&self, name: &[u8]) -> Option<&Meaning>
-        ensures { meant_in (option_copied result) ≡ meant_by (known self.now) name.now }
+        ensures { meant_in (option_copied result)
+            ≡ meant_by (visible (scope_of self.now)) name.now }
     {
-        match newest_of(&self.held, name) {
-            Some(i) => Some(&self.held[i].meaning),
-            None => self.table.get(name),
+        match self.own.find(name) {
+            Some(meaning) => Some(meaning),
+            None => find_in(&self.outer, name),
         }
     }
 }

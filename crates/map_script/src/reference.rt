@@ -3,8 +3,8 @@ ghost use Rattle.std.specs.Prelude.{◌≡◌, ◌≤◌, ◌<◌, ◌+◌, ◌-
 ghost use Rattle.std.specs.List.{list_all};
 ghost use Rattle.map_commands.specs.Grammar.{kind_of};
 ghost use Rattle.map_commands.specs.Words.{is_numeral};
-ghost use Rattle.map_script.specs.Known.{meant_in, scope_of};
-ghost use Rattle.map_script.specs.Meant.{meant_by};
+ghost use Rattle.map_script.specs.Known.{scope_of};
+ghost use Rattle.map_script.specs.Meant.{meant_by, meant_in};
 ghost use Rattle.lump_records.specs.Names.{is_digit};
 ghost use Rattle.map_script.specs.Names.{added_by, cut, first_named, is_kind_part, is_natural_word, is_letter, is_no_reference, is_script_name, is_script_name_byte, is_sum_part, has_places, number_at_place, number_behind_bracket, number_by, number_by_place, number_for, number_in, number_placed, number_there, sum_of, sum_there, value_of, words_and};
 

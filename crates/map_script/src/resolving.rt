@@ -2,10 +2,11 @@
 ghost use Rattle.std.specs.Prelude.{◌≡◌, ◌++◌, ◌<◌, ◌==◌, IfErr, IfOk, IsOkUnless, Ok, option_copied, slice_index};
 ghost use Rattle.std.specs.List.{list_any};
 ghost use Rattle.map_script.specs.declared.error.DrawError.TheVariants.{OutOfMemory};
-ghost use Rattle.map_script.specs.Known.{known, scope_of};
+ghost use Rattle.map_script.specs.Known.{scope_of};
 ghost use Rattle.map_script.specs.Lines.{MakesWord, PutsWord, TellsScriptFault, command_words, field_parts, has_good_name, is_reckoned, joined_line, line_for, name_in, named_word, reckoned_word, reference_word, sum_word, word_for, words_for};
 ghost use Rattle.map_script.specs.Meant.{meant_by};
 ghost use Rattle.map_script.specs.Names.{number_for};
+ghost use Rattle.map_script.specs.Scopes.{visible};
 ghost use Rattle.map_script.specs.Sums.{sum_value};
 ghost use Rattle.map_script.specs.Texts.{with_word};
 ghost use Rattle.map_script.specs.Words.{text_words};
@@ -105,7 +106,7 @@ fn named_word(
     reference: &[u8],
 ) -> Result<Vec<u8>, DrawError>
     ensures { MakesWord result (named_word (scope_of names.now) map.now.tables text.now
-        (meant_by (known names.now) reference.now)
+        (meant_by (visible (scope_of names.now)) reference.now)
         (number_for (scope_of names.now) map.now.tables reference.now)) }
 {
     match names.find(reference) {

@@ -1,9 +1,10 @@
 //! Sums: numbers, references and words of names, with `+ - * /` and parentheses.
 ghost use Rattle.std.specs.Prelude.{◌≡◌, MatchOption, None, Some, option_copied};
 ghost use Rattle.map_script.specs.Cuts.{behind_byte};
-ghost use Rattle.map_script.specs.Known.{known, scope_of};
+ghost use Rattle.map_script.specs.Known.{scope_of};
 ghost use Rattle.map_script.specs.Meant.{meant_by};
 ghost use Rattle.map_script.specs.Names.{number_for};
+ghost use Rattle.map_script.specs.Scopes.{visible};
 ghost use Rattle.map_script.specs.Sums.{place_of_sums, reference_value, sum_value};
 
 use crate::cutting::{cut_place, inside, place_parts};
@@ -35,7 +36,7 @@ fn operand_in(text: &[u8]) -> Option<&[u8]>
 
 // The number of a reference, given without its `$`.
 fn reference_value(names: &Names, map: &Map, reference: &[u8]) -> Result<i64, DrawError>
-    ensures { result ≡ reference_value (meant_by (known names.now) reference.now)
+    ensures { result ≡ reference_value (meant_by (visible (scope_of names.now)) reference.now)
         (number_for (scope_of names.now) map.now.tables reference.now) }
 {
     match names.find(reference) {

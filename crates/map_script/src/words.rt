@@ -1,6 +1,6 @@
 //! The words of a script's line. Blanks separate them.
-ghost use Rattle.std.specs.Prelude.{◌≡◌, ◌≤◌, ◌<◌, [], ◌∷◌, false, length, slice_index, IfSome, MatchOption};
-ghost use Rattle.map_script.specs.Words.{is_blank, text_words};
+ghost use Rattle.std.specs.Prelude.{◌≡◌, ◌≤◌, ◌<◌, [], ◌∷◌, false, drop, length, slice_index, IfSome, MatchOption};
+ghost use Rattle.map_script.specs.Words.{first_word, is_blank, text_words};
 
 /// Whether the byte is a space or a tab.
 pub fn is_blank(b: u8) -> bool
@@ -53,4 +53,15 @@ pub fn next_word(text: &[u8]) -> Option<(&[u8], &[u8])>
         return None;
     }
     Some(split_word(begun))
+}
+
+/// The first word of a text, empty if it has none, and what stands behind it.
+pub fn first_word(text: &[u8]) -> (&[u8], &[u8])
+    ensures first { result.0.now ≡ first_word (text_words text.now) }
+    ensures rest { text_words result.1.now ≡ drop 1 (text_words text.now) }
+{
+    match next_word(text) {
+        Some(parts) => parts,
+        None => (&[], text),
+    }
 }

@@ -5,6 +5,7 @@ use Rattle.std.specs.Io.KnownBytes.{Keeps}
 use Rattle.std.proofs.KnownBytes.{Keeps-refl, Keeps-trans}
 use Rattle.std.proofs.lemmas.Bool.{true≢false}
 use Rattle.run_script.specs.Canvases.{NothingWaits}
+use Rattle.run_script.specs.Defined.{Shape}
 use Rattle.run_script.specs.Drawn.{Advances, ComesTo, EndsFrom, IsAtPlace, IsCutOff, IsStoppedAt, Progress, on_canvas}
 use Rattle.run_script.specs.declared.drawing.Stop.{Stop}
 use Rattle.run_script.specs.declared.canvas.Canvas.{Ghosts}
@@ -22,17 +23,17 @@ abbrev pub SettledAgain : {S : Type 0} → Ghosts S → Type 0
 SettledAgain {S = S} facts = (old mid new : S) → facts.settles old mid → facts.settles mid new → facts.settles old new
 
 -- where what waits is lost, the script is stopped at this place, of so many, with 30
-abbrev pub IsLostFrom : {S : Type 0} → Ghosts S → Bool → Progress S → ℕ → ℕ → ℕ → Option (List ℕ) → S → Type 0
-IsLostFrom {S = S} facts verbose start limit many place written canvas =
+abbrev pub IsLostFrom : {S : Type 0} → Ghosts S → Bool → List Shape → Progress S → ℕ → ℕ → ℕ → Option (List ℕ) → S → Type 0
+IsLostFrom {S = S} facts verbose shapes start limit many place written canvas =
     (last : S) → facts.loses canvas last → (place < many) × (verbose ≡ false)
-    × ((w : Option (List ℕ)) → Keeps written w → IsStoppedAt facts verbose start limit (record { place = place; code = 30 }) last w)
+    × ((w : Option (List ℕ)) → Keeps written w → IsStoppedAt facts verbose shapes start limit (record { place = place; code = 30 }) last w)
 
 module _ {S : Type 0} (facts : Ghosts S) (since : Since facts) (within : Within facts) (alone : Alone facts) (told_all : ToldAll facts) (loss_told : LossTold facts)
     (begun : Begun facts) (lost_settled : LostSettled facts) (again : SettledAgain facts) where
-  stop_then : (verbose : Bool) (start : Progress S) (limit place : ℕ) (other last : S) (w : Option (List ℕ))
-      → IsStoppedAt facts verbose start limit (record { place = place; code = 30 }) other w → facts.settles other last
-      → IsStoppedAt facts verbose start limit (record { place = place; code = 30 }) last w
-  stop_then verbose start limit place other last w stop settled = record {
+  stop_then : (verbose : Bool) (shapes : List Shape) (start : Progress S) (limit place : ℕ) (other last : S) (w : Option (List ℕ))
+      → IsStoppedAt facts verbose shapes start limit (record { place = place; code = 30 }) other w → facts.settles other last
+      → IsStoppedAt facts verbose shapes start limit (record { place = place; code = 30 }) last w
+  stop_then verbose shapes start limit place other last w stop settled = record {
     count = stop.count;
     before = stop.before;
     after = stop.after;
@@ -43,27 +44,27 @@ module _ {S : Type 0} (facts : Ghosts S) (since : Since facts) (within : Within 
     has = stop.has;
   }
 
-  before_lost : (verbose : Bool) (start : Progress S) (limit many place : ℕ) (old began last : S) (u w : Option (List ℕ)) → facts.begins old verbose began
-      → IsLostFrom facts verbose start limit many place u old → facts.loses began last → (verbose ≡ false → Keeps u w)
+  before_lost : (verbose : Bool) (shapes : List Shape) (start : Progress S) (limit many place : ℕ) (old began last : S) (u w : Option (List ℕ)) → facts.begins old verbose began
+      → IsLostFrom facts verbose shapes start limit many place u old → facts.loses began last → (verbose ≡ false → Keeps u w)
       → (facts.holds_earlier began ≡ true) × (place < many) × (verbose ≡ false)
-      × ((x : Option (List ℕ)) → Keeps w x → IsStoppedAt facts verbose start limit (record { place = place; code = 30 }) last x)
-  before_lost verbose start limit many place old began last u w begins known lost kept =
+      × ((x : Option (List ℕ)) → Keeps w x → IsStoppedAt facts verbose shapes start limit (record { place = place; code = 30 }) last x)
+  before_lost verbose shapes start limit many place old began last u w begins known lost kept =
       let (still, (other, gone, settled)) = (begun old began verbose begins).2 last lost in
       let (below, quiet, stops) = known other gone in
-      (still, below, quiet, λ x keeps. stop_then verbose start limit place other last x (stops x (Keeps-trans u w x (kept quiet) keeps)) settled)
+      (still, below, quiet, λ x keeps. stop_then verbose shapes start limit place other last x (stops x (Keeps-trans u w x (kept quiet) keeps)) settled)
 
-  pub next_lost : (verbose : Bool) (start : Progress S) (limit many n before place : ℕ) (mid new : Progress S) (began : S) (refusal : Option ℕ) → ComesTo facts verbose start n mid
+  pub next_lost : (verbose : Bool) (shapes : List Shape) (start : Progress S) (limit many n before place : ℕ) (mid new : Progress S) (began : S) (refusal : Option ℕ) → ComesTo facts verbose shapes start n mid
       → n < limit → place < many → IsAtPlace mid.lines mid.turns place → facts.begins mid.sketch.canvas verbose began
-      → Advances facts verbose (on_canvas began mid) refusal new → IsLostFrom facts verbose start limit many before mid.sketch.written mid.sketch.canvas
-      → IsLostFrom facts verbose start limit many (if facts.holds_earlier new.sketch.canvas then before else place) new.sketch.written new.sketch.canvas
-  next_lost verbose start limit many n before place mid new began refusal reached under inside at begins drawn known last lost =
-      let (kept, lines) = advance_lost facts since within alone told_all loss_told verbose (on_canvas began mid) new refusal last drawn lost in go kept lines
+      → Advances facts verbose shapes (on_canvas began mid) refusal new → IsLostFrom facts verbose shapes start limit many before mid.sketch.written mid.sketch.canvas
+      → IsLostFrom facts verbose shapes start limit many (if facts.holds_earlier new.sketch.canvas then before else place) new.sketch.written new.sketch.canvas
+  next_lost verbose shapes start limit many n before place mid new began refusal reached under inside at begins drawn known last lost =
+      let (kept, lines) = advance_lost facts since within alone told_all loss_told verbose shapes (on_canvas began mid) new refusal last drawn lost in go kept lines
     where
       StopsAt : ℕ → Type 0
-      StopsAt p = (p < many) × (verbose ≡ false) × ((w : Option (List ℕ)) → Keeps new.sketch.written w → IsStoppedAt facts verbose start limit (record { place = p; code = 30 }) last w)
+      StopsAt p = (p < many) × (verbose ≡ false) × ((w : Option (List ℕ)) → Keeps new.sketch.written w → IsStoppedAt facts verbose shapes start limit (record { place = p; code = 30 }) last w)
 
-      stopped : (w : Option (List ℕ)) → StepOf facts since within alone told_all loss_told verbose mid.lines (on_canvas began mid) last w
-          → IsStoppedAt facts verbose start limit (record { place = place; code = 30 }) last w
+      stopped : (w : Option (List ℕ)) → StepOf facts since within alone told_all loss_told verbose shapes mid.lines (on_canvas began mid) last w
+          → IsStoppedAt facts verbose shapes start limit (record { place = place; code = 30 }) last w
       stopped w (x, drawn, canvas, written) = record {
         count = n;
         before = mid;
@@ -77,10 +78,10 @@ module _ {S : Type 0} (facts : Ghosts S) (since : Since facts) (within : Within 
 
       go : (verbose ≡ false → Keeps mid.sketch.written new.sketch.written)
           → Lost facts since within alone told_all loss_told began new.sketch.canvas last
-          ((w : Option (List ℕ)) → Keeps mid.sketch.written w → StepOf facts since within alone told_all loss_told verbose mid.lines (on_canvas began mid) last w)
+          ((w : Option (List ℕ)) → Keeps mid.sketch.written w → StepOf facts since within alone told_all loss_told verbose shapes mid.lines (on_canvas began mid) last w)
           → StopsAt (if facts.holds_earlier new.sketch.canvas then before else place)
       go kept (inl (same, gone)) =
-          let (still, below, quiet, stops) = before_lost verbose start limit many before mid.sketch.canvas began last mid.sketch.written new.sketch.written begins known gone kept in
+          let (still, below, quiet, stops) = before_lost verbose shapes start limit many before mid.sketch.canvas began last mid.sketch.written new.sketch.written begins known gone kept in
           subst (λ (b : Bool). StopsAt (if b then before else place)) (sym (same ∙ still)) (below, quiet, stops)
       go kept (inr (none, together, make)) =
           let quiet : verbose ≡ false = (begun mid.sketch.canvas began verbose begins).1 together in
@@ -88,33 +89,33 @@ module _ {S : Type 0} (facts : Ghosts S) (since : Since facts) (within : Within 
           (inside, quiet, λ w keeps. stopped w (make w (Keeps-trans mid.sketch.written new.sketch.written w (kept quiet) keeps)))
 
   -- a line that lost what earlier ones had
-  pub line_lost : (verbose : Bool) (start : Progress S) (limit many before : ℕ) (mid new : Progress S) (began : S) (code : ℕ) → facts.begins mid.sketch.canvas verbose began
-      → Advances facts verbose (on_canvas began mid) (Some code) new → facts.has_lost new.sketch.canvas ≡ true
-      → IsLostFrom facts verbose start limit many before mid.sketch.written mid.sketch.canvas
-      → (before < many) × IsStoppedAt facts verbose start limit (record { place = before; code = 30 }) new.sketch.canvas new.sketch.written
-  line_lost verbose start limit many before mid new began code begins drawn lost known =
-      go (advance_in facts since within alone told_all loss_told verbose (on_canvas began mid) new code drawn lost)
+  pub line_lost : (verbose : Bool) (shapes : List Shape) (start : Progress S) (limit many before : ℕ) (mid new : Progress S) (began : S) (code : ℕ) → facts.begins mid.sketch.canvas verbose began
+      → Advances facts verbose shapes (on_canvas began mid) (Some code) new → facts.has_lost new.sketch.canvas ≡ true
+      → IsLostFrom facts verbose shapes start limit many before mid.sketch.written mid.sketch.canvas
+      → (before < many) × IsStoppedAt facts verbose shapes start limit (record { place = before; code = 30 }) new.sketch.canvas new.sketch.written
+  line_lost verbose shapes start limit many before mid new began code begins drawn lost known =
+      go (advance_in facts since within alone told_all loss_told verbose shapes (on_canvas began mid) new code drawn lost)
     where
       go : LostIn facts since within alone told_all loss_told code began new.sketch.canvas (Keeps mid.sketch.written new.sketch.written)
-          → (before < many) × IsStoppedAt facts verbose start limit (record { place = before; code = 30 }) new.sketch.canvas new.sketch.written
+          → (before < many) × IsStoppedAt facts verbose shapes start limit (record { place = before; code = 30 }) new.sketch.canvas new.sketch.written
       go (inl already) = absurd (true≢false (sym already ∙ (begun mid.sketch.canvas began verbose begins).0))
       go (inr (thirty, waits, gone, kept)) =
           let (still, (other, lost, settled)) = (begun mid.sketch.canvas began verbose begins).2 new.sketch.canvas gone in
           let (below, quiet, stops) = known other lost in
-          (below, stop_then verbose start limit before other new.sketch.canvas new.sketch.written (stops new.sketch.written kept) settled)
+          (below, stop_then verbose shapes start limit before other new.sketch.canvas new.sketch.written (stops new.sketch.written kept) settled)
 
 -- the place of the first line whose commands wait
-pub at_first_place : {S : Type 0} (facts : Ghosts S) (verbose : Bool) (start : Progress S) (limit many p before place : ℕ) (b : Bool) (written : Option (List ℕ)) (canvas : S)
+pub at_first_place : {S : Type 0} (facts : Ghosts S) (verbose : Bool) (shapes : List Shape) (start : Progress S) (limit many p before place : ℕ) (b : Bool) (written : Option (List ℕ)) (canvas : S)
     → p ≡ (if b then before else place) → b ≡ facts.holds_earlier canvas
-    → IsLostFrom facts verbose start limit many (if facts.holds_earlier canvas then before else place) written canvas → IsLostFrom facts verbose start limit many p written canvas
-at_first_place facts verbose start limit many p before place b written canvas is holds lost =
-    subst (λ (q : ℕ). IsLostFrom facts verbose start limit many q written canvas) (sym is)
-    (subst (λ (h : Bool). IsLostFrom facts verbose start limit many (if h then before else place) written canvas) (sym holds) lost)
+    → IsLostFrom facts verbose shapes start limit many (if facts.holds_earlier canvas then before else place) written canvas → IsLostFrom facts verbose shapes start limit many p written canvas
+at_first_place facts verbose shapes start limit many p before place b written canvas is holds lost =
+    subst (λ (q : ℕ). IsLostFrom facts verbose shapes start limit many q written canvas) (sym is)
+    (subst (λ (h : Bool). IsLostFrom facts verbose shapes start limit many (if h then before else place) written canvas) (sym holds) lost)
 
 -- nothing waits before the first line
-pub none_lost_from : {S : Type 0} (facts : Ghosts S) (verbose : Bool) (start : Progress S) (limit many place : ℕ) (written : Option (List ℕ)) (canvas : S) → NothingWaits facts canvas
-    → IsLostFrom facts verbose start limit many place written canvas
-none_lost_from facts verbose start limit many place written canvas nothing last lost = absurd (nothing last lost)
+pub none_lost_from : {S : Type 0} (facts : Ghosts S) (verbose : Bool) (shapes : List Shape) (start : Progress S) (limit many place : ℕ) (written : Option (List ℕ)) (canvas : S) → NothingWaits facts canvas
+    → IsLostFrom facts verbose shapes start limit many place written canvas
+none_lost_from facts verbose shapes start limit many place written canvas nothing last lost = absurd (nothing last lost)
 
 -- ---- The end
 
@@ -122,30 +123,30 @@ abbrev Finishes : {S : Type 0} → Ghosts S → S → S → Option Stop → Opti
 Finishes facts old new ended result first =
     (facts.settles old new × (result ≡ ended)) ⊎ (facts.loses old new × (result ≡ Some (record { place = first; code = 30 })))
 
-pub finished : {S : Type 0} (facts : Ghosts S) (verbose : Bool) (start : Progress S) (limit many first : ℕ) (written : Option (List ℕ)) (old new : S) (ended result : Option Stop)
-    → (facts.settles old new → EndsFrom facts verbose start limit (Ok ended) new written) → IsLostFrom facts verbose start limit many first written old
-    → Finishes facts old new ended result first → EndsFrom facts verbose start limit (Ok result) new written
-finished facts verbose start limit many first written old new ended result ends lost (inl (settled, is)) =
-    subst (λ (o : Option Stop). EndsFrom facts verbose start limit (Ok o) new written) (sym is) (ends settled)
-finished facts verbose start limit many first written old new ended result ends lost (inr (gone, is)) =
+pub finished : {S : Type 0} (facts : Ghosts S) (verbose : Bool) (shapes : List Shape) (start : Progress S) (limit many first : ℕ) (written : Option (List ℕ)) (old new : S) (ended result : Option Stop)
+    → (facts.settles old new → EndsFrom facts verbose shapes start limit (Ok ended) new written) → IsLostFrom facts verbose shapes start limit many first written old
+    → Finishes facts old new ended result first → EndsFrom facts verbose shapes start limit (Ok result) new written
+finished facts verbose shapes start limit many first written old new ended result ends lost (inl (settled, is)) =
+    subst (λ (o : Option Stop). EndsFrom facts verbose shapes start limit (Ok o) new written) (sym is) (ends settled)
+finished facts verbose shapes start limit many first written old new ended result ends lost (inr (gone, is)) =
     let (below, quiet, stops) = lost new gone in
-    subst (λ (o : Option Stop). EndsFrom facts verbose start limit (Ok o) new written) (sym is) (stops written (Keeps-refl written))
+    subst (λ (o : Option Stop). EndsFrom facts verbose shapes start limit (Ok o) new written) (sym is) (stops written (Keeps-refl written))
 
-pub finished_place : {S : Type 0} (facts : Ghosts S) (verbose : Bool) (start : Progress S) (limit many first : ℕ) (written : Option (List ℕ)) (old new : S) (ended result : Option Stop)
-    → IfSome ended (λ s. s.place < many) → IsLostFrom facts verbose start limit many first written old
+pub finished_place : {S : Type 0} (facts : Ghosts S) (verbose : Bool) (shapes : List Shape) (start : Progress S) (limit many first : ℕ) (written : Option (List ℕ)) (old new : S) (ended result : Option Stop)
+    → IfSome ended (λ s. s.place < many) → IsLostFrom facts verbose shapes start limit many first written old
     → Finishes facts old new ended result first → IfSome result (λ s. s.place < many)
-finished_place facts verbose start limit many first written old new ended result inside lost (inl (settled, is)) =
+finished_place facts verbose shapes start limit many first written old new ended result inside lost (inl (settled, is)) =
     subst (λ (o : Option Stop). IfSome o (λ s. s.place < many)) (sym is) inside
-finished_place facts verbose start limit many first written old new ended result inside lost (inr (gone, is)) =
+finished_place facts verbose shapes start limit many first written old new ended result inside lost (inr (gone, is)) =
     let (below, quiet, stops) = lost new gone in
     subst (λ (o : Option Stop). IfSome o (λ s. s.place < many)) (sym is) below
 
 -- lines were drawn, and perhaps one more, when a call was cut off
-pub cut_off_at : {S : Type 0} (facts : Ghosts S) (verbose : Bool) (first mid : Progress S) (began canvas new : S) (n : ℕ) → ComesTo facts verbose first n mid
+pub cut_off_at : {S : Type 0} (facts : Ghosts S) (verbose : Bool) (shapes : List Shape) (first mid : Progress S) (began canvas new : S) (n : ℕ) → ComesTo facts verbose shapes first n mid
     → facts.begins mid.sketch.canvas verbose began
-    → facts.settles began canvas ⊎ ((last : Progress S) × Advances facts verbose (on_canvas began mid) None last × (canvas ≡ last.sketch.canvas))
-    → facts.settles canvas new ⊎ facts.loses canvas new → IsCutOff facts verbose first new
-cut_off_at facts verbose first mid began canvas new n reached begins (inl settled) leaves =
+    → facts.settles began canvas ⊎ ((last : Progress S) × Advances facts verbose shapes (on_canvas began mid) None last × (canvas ≡ last.sketch.canvas))
+    → facts.settles canvas new ⊎ facts.loses canvas new → IsCutOff facts verbose shapes first new
+cut_off_at facts verbose shapes first mid began canvas new n reached begins (inl settled) leaves =
     record { count = n; last = mid; reached = reached; left = canvas; settled = inr (began, begins, settled); leaves = leaves }
-cut_off_at facts verbose first mid began canvas new n reached begins (inr (last, drawn, at)) leaves =
+cut_off_at facts verbose shapes first mid began canvas new n reached begins (inr (last, drawn, at)) leaves =
     record { count = suc n; last = last; reached = (mid, reached, (began, begins, drawn)); left = canvas; settled = inl at; leaves = leaves }

@@ -1,4 +1,5 @@
 pub mod Currents
+pub mod Defining
 pub mod Grouped
 pub mod LineEnds
 pub mod Losing

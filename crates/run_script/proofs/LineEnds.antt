@@ -10,7 +10,7 @@ use Rattle.map_script.specs.Words.{text_words}
 use Rattle.map_script.specs.declared.firsts.Firsts.{Firsts}
 use Rattle.map_script.specs.declared.firsts.Numbers.{Numbers}
 use Rattle.map_script.specs.declared.error.DrawError.{DrawError}
-use Rattle.map_script.specs.declared.error.DrawError.TheVariants.{NotALet, NotALoop, NotAnAt, OutsideMap, NotAQuarter, NotAName, NotAReference, UnknownName, NothingAdded, NumberTooLarge, NothingThere, NotANumber, NotWhole, TooGreat, TooDeep, OpenBlock, TooManyLines, OutOfMemory}
+use Rattle.map_script.specs.declared.error.DrawError.TheVariants.{NotALet, NotALoop, NotAnAt, NotADefine, NotItsWords, OutsideMap, NotAQuarter, NotAName, NotAReference, UnknownName, NothingAdded, NumberTooLarge, NothingThere, NotANumber, NotWhole, TooGreat, TooDeep, OpenBlock, TooManyLines, OutOfMemory}
 use Rattle.run_script.specs.Lines.{Added, Does, DrawsLet, DrawsLine, DrawsOther, DrawsText, IsTried, Sketch, Stays, asks, sketch_of}
 use Rattle.run_script.specs.Given.{GivesWords, noted_text, with_given_name}
 use Rattle.run_script.specs.declared.canvas.Canvas.{Ghosts}
@@ -42,6 +42,8 @@ refused_line facts verbose line old new TooGreat is stays = faulty facts verbose
 refused_line facts verbose line old new TooDeep is stays = faulty facts verbose line old new TooDeep is stays
 refused_line facts verbose line old new NotALoop is stays = faulty facts verbose line old new NotALoop is stays
 refused_line facts verbose line old new NotAnAt is stays = faulty facts verbose line old new NotAnAt is stays
+refused_line facts verbose line old new NotADefine is stays = faulty facts verbose line old new NotADefine is stays
+refused_line facts verbose line old new NotItsWords is stays = faulty facts verbose line old new NotItsWords is stays
 refused_line facts verbose line old new OutsideMap is stays = faulty facts verbose line old new OutsideMap is stays
 refused_line facts verbose line old new NotAQuarter is stays = faulty facts verbose line old new NotAQuarter is stays
 refused_line facts verbose line old new OpenBlock is stays = faulty facts verbose line old new OpenBlock is stays
@@ -112,6 +114,8 @@ refused_words facts words canvas old new TooGreat is same = not-given facts word
 refused_words facts words canvas old new TooDeep is same = not-given facts words canvas old new TooDeep is same
 refused_words facts words canvas old new NotALoop is same = not-given facts words canvas old new NotALoop is same
 refused_words facts words canvas old new NotAnAt is same = not-given facts words canvas old new NotAnAt is same
+refused_words facts words canvas old new NotADefine is same = not-given facts words canvas old new NotADefine is same
+refused_words facts words canvas old new NotItsWords is same = not-given facts words canvas old new NotItsWords is same
 refused_words facts words canvas old new OutsideMap is same = not-given facts words canvas old new OutsideMap is same
 refused_words facts words canvas old new NotAQuarter is same = not-given facts words canvas old new NotAQuarter is same
 refused_words facts words canvas old new OpenBlock is same = not-given facts words canvas old new OpenBlock is same

@@ -11,6 +11,7 @@ use Rattle.map_script.specs.Words.{text_words}
 use Rattle.map_script.specs.declared.error.DrawError.{DrawError}
 use Rattle.map_shapes.specs.Shapes.{is_shape_line}
 use Rattle.map_tables.specs.Projects.{current_map}
+use Rattle.run_script.specs.Defined.{Shape}
 use Rattle.run_script.specs.Drawn.{Advances, AdvancesOver, DrawsNext, Progress, at_position, opened_by}
 use Rattle.run_script.specs.Given.{GivesWords}
 use Rattle.run_script.specs.Lines.{Does, DrawsLet, DrawsLine, DrawsOther, DrawsText, IsQueryTold, IsTried, OneOf, Sketch, Stays, asks, sketch_of}
@@ -250,54 +251,54 @@ module _ {S : Type 0} (facts : Ghosts S) (since : Since facts) (within : Within 
   abbrev pub refused_at : List (ℕ × (ℕ × List ℕ)) → Progress S → S → Option (List ℕ) → Progress S
   refused_at lines old last w = record { sketch = sketch_of last old.sketch.names w; lines = lines; turns = old.turns }
 
-  abbrev pub StepOf : Bool → List (ℕ × (ℕ × List ℕ)) → Progress S → S → Option (List ℕ) → Type 0
-  StepOf verbose lines old last w = (x : Progress S) × AdvancesOver facts verbose lines old (Some 30) x × (x.sketch.canvas ≡ last) × (x.sketch.written ≡ w)
+  abbrev pub StepOf : Bool → List Shape → List (ℕ × (ℕ × List ℕ)) → Progress S → S → Option (List ℕ) → Type 0
+  StepOf verbose shapes lines old last w = (x : Progress S) × AdvancesOver facts verbose shapes lines old (Some 30) x × (x.sketch.canvas ≡ last) × (x.sketch.written ≡ w)
 
-  placed_lost : (verbose : Bool) (lines : List (ℕ × (ℕ × List ℕ))) (old new : Progress S) (at : Position) (last : S) → new ≡ at_position old.sketch at → facts.loses new.sketch.canvas last
-      → LostOf verbose old.sketch new.sketch last (λ w. StepOf verbose lines old last w)
-  placed_lost verbose lines old new at last is lost =
+  placed_lost : (verbose : Bool) (shapes : List Shape) (lines : List (ℕ × (ℕ × List ℕ))) (old new : Progress S) (at : Position) (last : S) → new ≡ at_position old.sketch at → facts.loses new.sketch.canvas last
+      → LostOf verbose old.sketch new.sketch last (λ w. StepOf verbose shapes lines old last w)
+  placed_lost verbose shapes lines old new at last is lost =
       stays_lost verbose old.sketch new.sketch last _ (ap (λ (p : Progress S). p.sketch.canvas) is)
       (subst (λ (w : Option (List ℕ)). Keeps old.sketch.written w) (sym (ap (λ (p : Progress S). p.sketch.written) is)) (Keeps-refl old.sketch.written)) lost
 
-  next_lost : (verbose : Bool) (l : ℕ × (ℕ × List ℕ)) (ls : List (ℕ × (ℕ × List ℕ))) (old new : Progress S) (refusal : Option ℕ) (last : S) (o : Option (Result Position DrawError))
-      → opened_by facts l ls old ≡ o
+  next_lost : (verbose : Bool) (shapes : List Shape) (l : ℕ × (ℕ × List ℕ)) (ls : List (ℕ × (ℕ × List ℕ))) (old new : Progress S) (refusal : Option ℕ) (last : S) (o : Option (Result Position DrawError))
+      → opened_by facts shapes l ls old ≡ o
       → MatchOption o (DrawsNext facts verbose l.1 ls old refusal new) (λ outcome. (at : Position) × OpensBlock outcome old.sketch.names refusal at × (new ≡ at_position old.sketch at))
-      → facts.loses new.sketch.canvas last → LostOf verbose old.sketch new.sketch last (λ w. StepOf verbose (l ∷ ls) old last w)
-  next_lost verbose l ls old new refusal last (Some outcome) is (at, opens, same) lost = placed_lost verbose (l ∷ ls) old new at last same lost
-  next_lost verbose l ls old new refusal last None is (drawn, lines, turns) lost = go (line_lost verbose l.1 old.sketch new.sketch refusal last (let_words (text_words l.1.1)) drawn lost)
+      → facts.loses new.sketch.canvas last → LostOf verbose old.sketch new.sketch last (λ w. StepOf verbose shapes (l ∷ ls) old last w)
+  next_lost verbose shapes l ls old new refusal last (Some outcome) is (at, opens, same) lost = placed_lost verbose shapes (l ∷ ls) old new at last same lost
+  next_lost verbose shapes l ls old new refusal last None is (drawn, lines, turns) lost = go (line_lost verbose l.1 old.sketch new.sketch refusal last (let_words (text_words l.1.1)) drawn lost)
     where
-      step : (w : Option (List ℕ)) → DrawsLine facts verbose l.1 old.sketch (Some 30) (sketch_of last old.sketch.names w) → AdvancesOver facts verbose (l ∷ ls) old (Some 30) (refused_at ls old last w)
+      step : (w : Option (List ℕ)) → DrawsLine facts verbose l.1 old.sketch (Some 30) (sketch_of last old.sketch.names w) → AdvancesOver facts verbose shapes (l ∷ ls) old (Some 30) (refused_at ls old last w)
       step w line = subst (λ (o : Option (Result Position DrawError)). MatchOption o (DrawsNext facts verbose l.1 ls old (Some 30) (refused_at ls old last w))
           (λ outcome. (at : Position) × OpensBlock outcome old.sketch.names (Some 30) at × (refused_at ls old last w ≡ at_position old.sketch at))) (sym is) (line, refl, refl)
 
       go : LostOf verbose old.sketch new.sketch last (λ w. DrawsLine facts verbose l.1 old.sketch (Some 30) (sketch_of last old.sketch.names w))
-          → LostOf verbose old.sketch new.sketch last (λ w. StepOf verbose (l ∷ ls) old last w)
+          → LostOf verbose old.sketch new.sketch last (λ w. StepOf verbose shapes (l ∷ ls) old last w)
       go (kept, inl before) = (kept, inl before)
       go (kept, inr (none, together, make)) = (kept, inr (none, together, λ w keeps. (refused_at ls old last w, step w (make w keeps), refl, refl)))
 
-  over_lost : (verbose : Bool) (lines : List (ℕ × (ℕ × List ℕ))) (old new : Progress S) (refusal : Option ℕ) (last : S) → AdvancesOver facts verbose lines old refusal new
-      → facts.loses new.sketch.canvas last → LostOf verbose old.sketch new.sketch last (λ w. StepOf verbose lines old last w)
-  over_lost verbose [] old new refusal last (at, ends, same) lost = placed_lost verbose [] old new at last same lost
-  over_lost verbose (l ∷ ls) old new refusal last drawn lost = next_lost verbose l ls old new refusal last (opened_by facts l ls old) refl drawn lost
+  over_lost : (verbose : Bool) (shapes : List Shape) (lines : List (ℕ × (ℕ × List ℕ))) (old new : Progress S) (refusal : Option ℕ) (last : S) → AdvancesOver facts verbose shapes lines old refusal new
+      → facts.loses new.sketch.canvas last → LostOf verbose old.sketch new.sketch last (λ w. StepOf verbose shapes lines old last w)
+  over_lost verbose shapes [] old new refusal last (at, ends, same) lost = placed_lost verbose shapes [] old new at last same lost
+  over_lost verbose shapes (l ∷ ls) old new refusal last drawn lost = next_lost verbose shapes l ls old new refusal last (opened_by facts shapes l ls old) refl drawn lost
 
-  pub advance_lost : (verbose : Bool) (old new : Progress S) (refusal : Option ℕ) (last : S) → Advances facts verbose old refusal new → facts.loses new.sketch.canvas last
-      → LostOf verbose old.sketch new.sketch last (λ w. StepOf verbose old.lines old last w)
-  advance_lost verbose old new refusal last drawn lost = over_lost verbose old.lines old new refusal last drawn lost
+  pub advance_lost : (verbose : Bool) (shapes : List Shape) (old new : Progress S) (refusal : Option ℕ) (last : S) → Advances facts verbose shapes old refusal new → facts.loses new.sketch.canvas last
+      → LostOf verbose old.sketch new.sketch last (λ w. StepOf verbose shapes old.lines old last w)
+  advance_lost verbose shapes old new refusal last drawn lost = over_lost verbose shapes old.lines old new refusal last drawn lost
 
   placed_in : (old new : Progress S) (at : Position) (code : ℕ) → new ≡ at_position old.sketch at → facts.has_lost new.sketch.canvas ≡ true → InLost code old.sketch new.sketch
   placed_in old new at code is lost = same_in code old.sketch.canvas new.sketch.canvas _ (ap (λ (p : Progress S). p.sketch.canvas) is) lost
 
-  next_in : (verbose : Bool) (l : ℕ × (ℕ × List ℕ)) (ls : List (ℕ × (ℕ × List ℕ))) (old new : Progress S) (code : ℕ) (o : Option (Result Position DrawError))
+  next_in : (verbose : Bool) (shapes : List Shape) (l : ℕ × (ℕ × List ℕ)) (ls : List (ℕ × (ℕ × List ℕ))) (old new : Progress S) (code : ℕ) (o : Option (Result Position DrawError))
       → MatchOption o (DrawsNext facts verbose l.1 ls old (Some code) new) (λ outcome. (at : Position) × OpensBlock outcome old.sketch.names (Some code) at × (new ≡ at_position old.sketch at))
       → facts.has_lost new.sketch.canvas ≡ true → InLost code old.sketch new.sketch
-  next_in verbose l ls old new code (Some outcome) (at, opens, same) lost = placed_in old new at code same lost
-  next_in verbose l ls old new code None (drawn, lines, turns) lost = line_in verbose l.1 old.sketch new.sketch code (let_words (text_words l.1.1)) drawn lost
+  next_in verbose shapes l ls old new code (Some outcome) (at, opens, same) lost = placed_in old new at code same lost
+  next_in verbose shapes l ls old new code None (drawn, lines, turns) lost = line_in verbose l.1 old.sketch new.sketch code (let_words (text_words l.1.1)) drawn lost
 
-  over_in : (verbose : Bool) (lines : List (ℕ × (ℕ × List ℕ))) (old new : Progress S) (code : ℕ) → AdvancesOver facts verbose lines old (Some code) new
+  over_in : (verbose : Bool) (shapes : List Shape) (lines : List (ℕ × (ℕ × List ℕ))) (old new : Progress S) (code : ℕ) → AdvancesOver facts verbose shapes lines old (Some code) new
       → facts.has_lost new.sketch.canvas ≡ true → InLost code old.sketch new.sketch
-  over_in verbose [] old new code (at, ends, same) lost = placed_in old new at code same lost
-  over_in verbose (l ∷ ls) old new code drawn lost = next_in verbose l ls old new code (opened_by facts l ls old) drawn lost
+  over_in verbose shapes [] old new code (at, ends, same) lost = placed_in old new at code same lost
+  over_in verbose shapes (l ∷ ls) old new code drawn lost = next_in verbose shapes l ls old new code (opened_by facts shapes l ls old) drawn lost
 
-  pub advance_in : (verbose : Bool) (old new : Progress S) (code : ℕ) → Advances facts verbose old (Some code) new
+  pub advance_in : (verbose : Bool) (shapes : List Shape) (old new : Progress S) (code : ℕ) → Advances facts verbose shapes old (Some code) new
       → facts.has_lost new.sketch.canvas ≡ true → InLost code old.sketch new.sketch
-  advance_in verbose old new code drawn lost = over_in verbose old.lines old new code drawn lost
+  advance_in verbose shapes old new code drawn lost = over_in verbose shapes old.lines old new code drawn lost

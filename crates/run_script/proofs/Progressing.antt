@@ -1,10 +1,11 @@
 -- A script that is drawn line by line, and turn by turn.
 use Rattle.std.proofs.Common.{◌≡◌, ◌⊎◌, inl, inr, ℕ, ◌+◌, ◌<◌, ◌≤◌, Bool, List, [], ◌∷◌, ◌++◌, map, length, get_or, refl, ap, ap₂, sym, subst, ◌∙◌, arith, Option, Some, None, Result, Ok, Err}
-use Rattle.std.specs.Prelude.{All, IfNone, IfOk, MatchOption, MatchResult, suc, zero}
+use Rattle.std.specs.Prelude.{All, drop, IfNone, IfOk, MatchOption, MatchResult, suc, zero}
 use Rattle.std.proofs.lemmas.List.Elements.{All-nil}
 use Rattle.map_tables.specs.Projects.{current_map}
 use Rattle.map_tables.specs.Tables.{Tables}
 use Rattle.map_script.specs.Ats.{at_placing, at_words}
+use Rattle.map_script.specs.Defines.{call_words, define_fault, define_words}
 use Rattle.map_script.specs.Known.{scope_of}
 use Rattle.map_script.specs.Loops.{loop_range, loop_words}
 use Rattle.map_script.specs.Scopes.{Scope, first_scope}
@@ -14,9 +15,10 @@ use Rattle.map_script.specs.Words.{text_words}
 use Rattle.map_script.specs.declared.names.Names.{Names}
 use Rattle.map_script.specs.declared.script.ScriptLine.{ScriptLine}
 use Rattle.run_script.specs.Blocks.{lines_between, with_places}
+use Rattle.run_script.specs.Defined.{Shape, shape_called}
 use Rattle.run_script.specs.Drawn.{Advances, AdvancesOver, ComesTo, DrawsNext, Progress, Steps, at_first, at_position, opened_by}
 use Rattle.run_script.specs.Lines.{DrawsLine, Sketch, sketch_of}
-use Rattle.run_script.specs.Turns.{EndsTurn, OpensBlock, Position, Turn, after_at, after_loop, after_opening, after_words}
+use Rattle.run_script.specs.Turns.{EndsTurn, OpensBlock, Position, Turn, after_at, after_drawing, after_define, after_loop, after_naming, after_opening, after_words}
 use Rattle.run_script.specs.Places.{AdvancesTo, IsBlockWithin, IsFirstReading, IsWithinLines, position_of, progress_of, turns_of}
 use Rattle.run_script.specs.declared.canvas.Canvas.{Ghosts}
 use Rattle.run_script.specs.declared.error.ScriptError.{ScriptError}
@@ -33,85 +35,116 @@ any_ok (Err e) p = tt
 
 -- ---- One line, or the end of a turn
 
-at_block : {S : Type 0} (facts : Ghosts S) (verbose : Bool) (l : ℕ × (ℕ × List ℕ)) (ls : List (ℕ × (ℕ × List ℕ))) (old new : Progress S)
-    (outcome : Result Position DrawError) (refusal : Option ℕ) (at : Position) → opened_by facts l ls old ≡ Some outcome
-    → OpensBlock outcome old.sketch.names refusal at → new ≡ at_position old.sketch at → AdvancesOver facts verbose (l ∷ ls) old refusal new
-at_block facts verbose l ls old new outcome refusal at is opens same = rw is (at, opens, same)
+at_block : {S : Type 0} (facts : Ghosts S) (verbose : Bool) (shapes : List Shape) (l : ℕ × (ℕ × List ℕ)) (ls : List (ℕ × (ℕ × List ℕ))) (old new : Progress S)
+    (outcome : Result Position DrawError) (refusal : Option ℕ) (at : Position) → opened_by facts shapes l ls old ≡ Some outcome
+    → OpensBlock outcome old.sketch.names refusal at → new ≡ at_position old.sketch at → AdvancesOver facts verbose shapes (l ∷ ls) old refusal new
+at_block facts verbose shapes l ls old new outcome refusal at is opens same = rw is (at, opens, same)
 
-at_other : {S : Type 0} (facts : Ghosts S) (verbose : Bool) (l : ℕ × (ℕ × List ℕ)) (ls : List (ℕ × (ℕ × List ℕ))) (old new : Progress S) (refusal : Option ℕ)
-    → opened_by facts l ls old ≡ None → DrawsNext facts verbose l.1 ls old refusal new → AdvancesOver facts verbose (l ∷ ls) old refusal new
-at_other facts verbose l ls old new refusal is drawn = rw is drawn
+at_other : {S : Type 0} (facts : Ghosts S) (verbose : Bool) (shapes : List Shape) (l : ℕ × (ℕ × List ℕ)) (ls : List (ℕ × (ℕ × List ℕ))) (old new : Progress S) (refusal : Option ℕ)
+    → opened_by facts shapes l ls old ≡ None → DrawsNext facts verbose l.1 ls old refusal new → AdvancesOver facts verbose shapes (l ∷ ls) old refusal new
+at_other facts verbose shapes l ls old new refusal is drawn = rw is drawn
 
 -- the line of a block
-pub met_block : {S : Type 0} (facts : Ghosts S) (verbose : Bool) (lines : List ScriptLine) (x : ScriptLine) (canvas : S) (names named : Scope) (w : Option (List ℕ))
+pub met_block : {S : Type 0} (facts : Ghosts S) (verbose : Bool) (shapes : List Shape) (lines : List ScriptLine) (x : ScriptLine) (canvas : S) (names named : Scope) (w : Option (List ℕ))
     (r s : Reading) (outcome : Result Position DrawError) (refusal : Option ℕ) → x ≡ get_or lines r.place x → r.place < length lines → r.place < r.until
-    → after_opening names (current_map (facts.maps_in canvas)) r.place (lines_between (with_places (map seen lines)) (r.place + 1) r.until)
+    → after_opening names (current_map (facts.maps_in canvas)) shapes r.place (lines_between (with_places (map seen lines)) (r.place + 1) r.until)
     (turns_of (with_places (map seen lines)) r.blocks.items) (text_words x.text.items) ≡ Some outcome
     → OpensBlock outcome names refusal (position_of (with_places (map seen lines)) named s)
-    → Advances facts verbose (progress_of (with_places (map seen lines)) canvas names w r) refusal (progress_of (with_places (map seen lines)) canvas named w s)
-met_block facts verbose lines x canvas names named w r s outcome refusal is below inside block opens =
+    → Advances facts verbose shapes (progress_of (with_places (map seen lines)) canvas names w r) refusal (progress_of (with_places (map seen lines)) canvas named w s)
+met_block facts verbose shapes lines x canvas names named w r s outcome refusal is below inside block opens =
     let all : List (ℕ × (ℕ × List ℕ)) = with_places (map seen lines) in
     let old = progress_of all canvas names w r in
     let new = progress_of all canvas named w s in
-    subst (λ (left : List (ℕ × (ℕ × List ℕ))). AdvancesOver facts verbose left old refusal new) (sym (next_line lines r.place r.until x is below inside))
-    (at_block facts verbose (r.place, seen x) (lines_between all (r.place + 1) r.until) old new outcome refusal (position_of all named s) block opens refl)
+    subst (λ (left : List (ℕ × (ℕ × List ℕ))). AdvancesOver facts verbose shapes left old refusal new) (sym (next_line lines r.place r.until x is below inside))
+    (at_block facts verbose shapes (r.place, seen x) (lines_between all (r.place + 1) r.until) old new outcome refusal (position_of all named s) block opens refl)
 
--- the line of a loop, or of an `at`, leads there
-pub by_loop : (names : Scope) (m : Tables) (place : ℕ) (lines : List (ℕ × (ℕ × List ℕ))) (turns : List Turn) (ws words : List (List ℕ)) → loop_words ws ≡ Some words
-    → after_opening names m place lines turns ws ≡ Some (after_loop names place lines turns words (loop_range names m words))
-by_loop names m place lines turns ws words is = ap (λ (o : Option (List (List ℕ))). after_words names m place lines turns o (at_words ws)) is
+-- the line of a loop, of an `at` or of a `define`, or one that draws a shape, leads there
+pub by_loop : (names : Scope) (m : Tables) (shapes : List Shape) (place : ℕ) (lines : List (ℕ × (ℕ × List ℕ))) (turns : List Turn) (ws words : List (List ℕ))
+    → loop_words ws ≡ Some words → after_opening names m shapes place lines turns ws ≡ Some (after_loop names place lines turns words (loop_range names m words))
+by_loop names m shapes place lines turns ws words is =
+    ap (λ (o : Option (List (List ℕ))). after_words names m place lines turns o (at_words ws)
+    (after_naming names m place lines turns ws (define_words ws) (shape_called shapes place ws))) is
 
-pub by_at : (names : Scope) (m : Tables) (place : ℕ) (lines : List (ℕ × (ℕ × List ℕ))) (turns : List Turn) (ws words : List (List ℕ)) → loop_words ws ≡ None
-    → at_words ws ≡ Some words → after_opening names m place lines turns ws ≡ Some (after_at names place lines turns (at_placing names m words))
-by_at names m place lines turns ws words none is = ap₂ (λ (o p : Option (List (List ℕ))). after_words names m place lines turns o p) none is
+pub by_at : (names : Scope) (m : Tables) (shapes : List Shape) (place : ℕ) (lines : List (ℕ × (ℕ × List ℕ))) (turns : List Turn) (ws words : List (List ℕ))
+    → loop_words ws ≡ None → at_words ws ≡ Some words
+    → after_opening names m shapes place lines turns ws ≡ Some (after_at names place lines turns (at_placing names m words))
+by_at names m shapes place lines turns ws words none is =
+    ap₂ (λ (o p : Option (List (List ℕ))). after_words names m place lines turns o p
+    (after_naming names m place lines turns ws (define_words ws) (shape_called shapes place ws))) none is
 
-pub by_none : (names : Scope) (m : Tables) (place : ℕ) (lines : List (ℕ × (ℕ × List ℕ))) (turns : List Turn) (ws : List (List ℕ)) → loop_words ws ≡ None
-    → at_words ws ≡ None → after_opening names m place lines turns ws ≡ None
-by_none names m place lines turns ws none neither = ap₂ (λ (o p : Option (List (List ℕ))). after_words names m place lines turns o p) none neither
+by_naming : (names : Scope) (m : Tables) (shapes : List Shape) (place : ℕ) (lines : List (ℕ × (ℕ × List ℕ))) (turns : List Turn) (ws : List (List ℕ))
+    → loop_words ws ≡ None → at_words ws ≡ None
+    → after_opening names m shapes place lines turns ws ≡ after_naming names m place lines turns ws (define_words ws) (shape_called shapes place ws)
+by_naming names m shapes place lines turns ws none neither =
+    ap₂ (λ (o p : Option (List (List ℕ))). after_words names m place lines turns o p
+    (after_naming names m place lines turns ws (define_words ws) (shape_called shapes place ws))) none neither
+
+pub by_define : (names : Scope) (m : Tables) (shapes : List Shape) (place : ℕ) (lines : List (ℕ × (ℕ × List ℕ))) (turns : List Turn) (ws words : List (List ℕ))
+    → loop_words ws ≡ None → at_words ws ≡ None → define_words ws ≡ Some words
+    → after_opening names m shapes place lines turns ws ≡ Some (after_define names lines turns (define_fault words))
+by_define names m shapes place lines turns ws words none neither is =
+    by_naming names m shapes place lines turns ws none neither
+    ∙ ap (λ (o : Option (List (List ℕ))). after_naming names m place lines turns ws o (shape_called shapes place ws)) is
+
+pub by_shape : (names : Scope) (m : Tables) (shapes : List Shape) (place : ℕ) (lines : List (ℕ × (ℕ × List ℕ))) (turns : List Turn) (ws : List (List ℕ)) (shape : Shape)
+    → loop_words ws ≡ None → at_words ws ≡ None → define_words ws ≡ None → shape_called shapes place ws ≡ Some shape
+    → after_opening names m shapes place lines turns ws ≡ Some (after_drawing names place lines turns shape (call_words names m shape.parameters (drop 1 ws)))
+by_shape names m shapes place lines turns ws shape none neither not is =
+    by_naming names m shapes place lines turns ws none neither
+    ∙ ap₂ (λ (o : Option (List (List ℕ))) (s : Option Shape). after_naming names m place lines turns ws o s) not is
+
+pub by_none : (names : Scope) (m : Tables) (shapes : List Shape) (place : ℕ) (lines : List (ℕ × (ℕ × List ℕ))) (turns : List Turn) (ws : List (List ℕ))
+    → loop_words ws ≡ None → at_words ws ≡ None → define_words ws ≡ None → shape_called shapes place ws ≡ None
+    → after_opening names m shapes place lines turns ws ≡ None
+by_none names m shapes place lines turns ws none neither not other =
+    by_naming names m shapes place lines turns ws none neither
+    ∙ ap₂ (λ (o : Option (List (List ℕ))) (s : Option Shape). after_naming names m place lines turns ws o s) not other
 
 -- another line
-drew_other : {S : Type 0} (facts : Ghosts S) (verbose : Bool) (lines : List ScriptLine) (x : ScriptLine) (s : Sketch S) (r : Reading) (new : Progress S)
+drew_other : {S : Type 0} (facts : Ghosts S) (verbose : Bool) (shapes : List Shape) (lines : List ScriptLine) (x : ScriptLine) (s : Sketch S) (r : Reading) (new : Progress S)
     (refusal : Option ℕ) → x ≡ get_or lines r.place x → r.place < length lines → r.place < r.until → loop_words (text_words x.text.items) ≡ None
-    → at_words (text_words x.text.items) ≡ None
+    → at_words (text_words x.text.items) ≡ None → define_words (text_words x.text.items) ≡ None → shape_called shapes r.place (text_words x.text.items) ≡ None
     → DrawsNext facts verbose (seen x) (lines_between (with_places (map seen lines)) (r.place + 1) r.until) (progress_of (with_places (map seen lines)) s.canvas s.names s.written r)
     refusal new
-    → Advances facts verbose (progress_of (with_places (map seen lines)) s.canvas s.names s.written r) refusal new
-drew_other facts verbose lines x s r new refusal is below inside other neither drawn =
+    → Advances facts verbose shapes (progress_of (with_places (map seen lines)) s.canvas s.names s.written r) refusal new
+drew_other facts verbose shapes lines x s r new refusal is below inside other neither not undrawn drawn =
     let all : List (ℕ × (ℕ × List ℕ)) = with_places (map seen lines) in
     let old = progress_of all s.canvas s.names s.written r in
-    subst (λ (left : List (ℕ × (ℕ × List ℕ))). AdvancesOver facts verbose left old refusal new) (sym (next_line lines r.place r.until x is below inside))
-    (at_other facts verbose (r.place, seen x) (lines_between all (r.place + 1) r.until) old new refusal
-    (by_none s.names (current_map (facts.maps_in s.canvas)) r.place (lines_between all (r.place + 1) r.until) (turns_of all r.blocks.items) (text_words x.text.items) other neither) drawn)
+    subst (λ (left : List (ℕ × (ℕ × List ℕ))). AdvancesOver facts verbose shapes left old refusal new) (sym (next_line lines r.place r.until x is below inside))
+    (at_other facts verbose shapes (r.place, seen x) (lines_between all (r.place + 1) r.until) old new refusal
+    (by_none s.names (current_map (facts.maps_in s.canvas)) shapes r.place (lines_between all (r.place + 1) r.until) (turns_of all r.blocks.items) (text_words x.text.items)
+    other neither not undrawn) drawn)
 
 -- how another line ends
-pub ended_next : {S : Type 0} (facts : Ghosts S) (verbose : Bool) (lines : List ScriptLine) (x : ScriptLine) (old new : Sketch S) (canvas : S) (r s : Reading)
+pub ended_next : {S : Type 0} (facts : Ghosts S) (verbose : Bool) (shapes : List Shape) (lines : List ScriptLine) (x : ScriptLine) (old new : Sketch S) (canvas : S) (r s : Reading)
     (result : Result (Option ℕ) ScriptError) → x ≡ get_or lines r.place x → r.place < length lines → r.place < r.until → loop_words (text_words x.text.items) ≡ None
-    → at_words (text_words x.text.items) ≡ None → s.place ≡ r.place + 1 → s.until ≡ r.until → s.blocks.items ≡ r.blocks.items → new.canvas ≡ canvas
+    → at_words (text_words x.text.items) ≡ None → define_words (text_words x.text.items) ≡ None → shape_called shapes r.place (text_words x.text.items) ≡ None
+    → s.place ≡ r.place + 1 → s.until ≡ r.until → s.blocks.items ≡ r.blocks.items → new.canvas ≡ canvas
     → MatchResult result (λ refusal. DrawsLine facts verbose (seen x) old refusal new)
     (λ e. ((e ≡ cut.OutOfMemory) ⊎ (e ≡ cut.WriterFailed))
     × (facts.settles old.canvas canvas ⊎ ((y : Sketch S) × DrawsLine facts verbose (seen x) old None y × (canvas ≡ y.canvas))))
-    → AdvancesTo facts verbose (progress_of (with_places (map seen lines)) old.canvas old.names old.written r) result
+    → AdvancesTo facts verbose shapes (progress_of (with_places (map seen lines)) old.canvas old.names old.written r) result
     (progress_of (with_places (map seen lines)) new.canvas new.names new.written s)
-ended_next facts verbose lines x old new canvas r s (Ok refusal) is below inside other neither place until blocks has drawn =
+ended_next facts verbose shapes lines x old new canvas r s (Ok refusal) is below inside other neither not undrawn place until blocks has drawn =
     let all : List (ℕ × (ℕ × List ℕ)) = with_places (map seen lines) in
-    drew_other facts verbose lines x old r (progress_of all new.canvas new.names new.written s) refusal is below inside other neither
+    drew_other facts verbose shapes lines x old r (progress_of all new.canvas new.names new.written s) refusal is below inside other neither not undrawn
     (drawn, ap₂ (λ (i j : ℕ). lines_between all i j) place until, ap (turns_of all) blocks)
-ended_next {S} facts verbose lines x old new canvas r s (Err e) is below inside other neither place until blocks has (cause, inl settled) = (cause, inl (subst (λ (c : S). facts.settles old.canvas c) (sym has) settled))
-ended_next {S} facts verbose lines x old new canvas r s (Err e) is below inside other neither place until blocks has (cause, inr (y, drawn, at)) =
+ended_next {S} facts verbose shapes lines x old new canvas r s (Err e) is below inside other neither not undrawn place until blocks has (cause, inl settled) = (cause, inl (subst (λ (c : S). facts.settles old.canvas c) (sym has) settled))
+ended_next {S} facts verbose shapes lines x old new canvas r s (Err e) is below inside other neither not undrawn place until blocks has (cause, inr (y, drawn, at)) =
     let all : List (ℕ × (ℕ × List ℕ)) = with_places (map seen lines) in
     let last : Progress S = record { sketch = y; lines = lines_between all (r.place + 1) r.until; turns = turns_of all r.blocks.items } in (
       cause,
-      inr (last, drew_other facts verbose lines x old r last None is below inside other neither (drawn, refl, refl), has ∙ at),
+      inr (last, drew_other facts verbose shapes lines x old r last None is below inside other neither not undrawn (drawn, refl, refl), has ∙ at),
     )
 
 -- ---- Many of them
 
 -- one more
-pub ComesTo-more : {S : Type 0} (facts : Ghosts S) (verbose : Bool) (first mid new : Progress S) (n : ℕ) → ComesTo facts verbose first n mid
-    → Steps facts verbose mid None new → ComesTo facts verbose first (n + 1) new
-ComesTo-more facts verbose first mid new n reached drawn =
+pub ComesTo-more : {S : Type 0} (facts : Ghosts S) (verbose : Bool) (shapes : List Shape) (first mid new : Progress S) (n : ℕ) → ComesTo facts verbose shapes first n mid
+    → Steps facts verbose shapes mid None new → ComesTo facts verbose shapes first (n + 1) new
+ComesTo-more facts verbose shapes first mid new n reached drawn =
     let more : suc n ≡ n + 1 = omega arith in
-    subst (λ m. ComesTo facts verbose first m new) more (mid, reached, drawn)
+    subst (λ m. ComesTo facts verbose shapes first m new) more (mid, reached, drawn)
 
 -- ---- All of them
 

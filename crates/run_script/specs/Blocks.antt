@@ -1,7 +1,10 @@
 -- The blocks of a script: which lines stand in them, and whether they are in order.
-use Rattle.std.specs.Prelude.{ℕ, zero, suc, Bool, ◌+◌, ◌-◌, ◌==◌, ◌&&◌, ◌||◌, if◌then◌else◌, List, [], ◌∷◌, take, drop, Option, Some, None}
+use Rattle.std.specs.Prelude.{ℕ, zero, suc, Bool, ◌+◌, ◌-◌, ◌==◌, ◌&&◌, ◌||◌, not, if◌then◌else◌, List, [], ◌∷◌, take, drop, Option, Some, None}
 use Rattle.std.specs.List.{enumerate_from}
+use Rattle.std.specs.Option.{is_some}
+use Rattle.map_script.specs.Defines.{define_words}
 use Rattle.map_script.specs.Loops.{closes, opens}
+use Rattle.map_script.specs.Words.{text_words}
 
 -- the lines, each behind its place among them, from 0
 abbrev pub with_places : List (ℕ × List ℕ) → List (ℕ × (ℕ × List ℕ))
@@ -35,9 +38,15 @@ behind_block lines = drop (block_len 0 lines + 1) lines
 
 -- ---- Their order
 
--- a line closes a block where none is open, or opens one within 64 others
+-- a line defines a shape
+abbrev pub defines : List ℕ → Bool
+defines line = is_some (define_words (text_words line))
+
+-- a line closes a block where none is open, opens one within 64 others, or defines a shape within one
 abbrev pub is_misplaced : ℕ → List ℕ → Bool
-is_misplaced depth line = (closes line && (depth == 0)) || (opens line && (depth == 64))
+is_misplaced depth line =
+    (closes line && (depth == 0))
+    || ((opens line && (depth == 64)) || (defines line && not (depth == 0)))
 
 -- the place of the first misplaced line, if so many blocks are open, the outermost of which begins
 -- at a place; or else the place of the outermost block that has no `end`

@@ -5,6 +5,7 @@ use Rattle.map_tables.specs.Projects.{current_map}
 use Rattle.map_script.specs.Scopes.{first_scope}
 use Rattle.map_script.specs.Words.{text_words}
 use Rattle.run_script.specs.Blocks.{order_fault, with_places}
+use Rattle.run_script.specs.Defined.{Shape, shapes_in}
 use Rattle.run_script.specs.Lines.{DrawsLine, Sketch, sketch_of}
 use Rattle.run_script.specs.Turns.{EndsTurn, OpensBlock, Position, Turn, after_opening}
 use Rattle.map_script.specs.declared.error.DrawError.{DrawError}
@@ -38,27 +39,31 @@ DrawsNext facts verbose line lines old refusal new =
     × (new.lines ≡ lines) × (new.turns ≡ old.turns)
 
 -- where a line leads before these lines, if it opens a block
-abbrev pub opened_by : {S : Type 0} → Ghosts S → ℕ × (ℕ × List ℕ) → List (ℕ × (ℕ × List ℕ))
+abbrev pub opened_by : {S : Type 0} → Ghosts S → List Shape → ℕ × (ℕ × List ℕ)
+    → List (ℕ × (ℕ × List ℕ))
     → Progress S → Option (Result Position DrawError)
-opened_by facts l ls old =
-    after_opening old.sketch.names (current_map (facts.maps_in old.sketch.canvas)) l.0 ls old.turns
-    (text_words l.1.1)
+opened_by facts shapes l ls old =
+    after_opening old.sketch.names (current_map (facts.maps_in old.sketch.canvas)) shapes l.0 ls
+    old.turns (text_words l.1.1)
 
 -- the same where these lines are to come in the turn: the first of them, which may open a block, or
 -- else its end
-abbrev pub AdvancesOver : {S : Type 0} → Ghosts S → Bool → List (ℕ × (ℕ × List ℕ)) → Progress S
+abbrev pub AdvancesOver : {S : Type 0} → Ghosts S → Bool → List Shape
+    → List (ℕ × (ℕ × List ℕ)) → Progress S
     → Option ℕ → Progress S → Type 0
-AdvancesOver facts verbose [] old refusal new =
+AdvancesOver facts verbose shapes [] old refusal new =
     (at : Position) × EndsTurn old.sketch.names old.turns refusal at
     × (new ≡ at_position old.sketch at)
-AdvancesOver facts verbose (l ∷ ls) old refusal new =
-    MatchOption (opened_by facts l ls old) (DrawsNext facts verbose l.1 ls old refusal new)
+AdvancesOver facts verbose shapes (l ∷ ls) old refusal new =
+    MatchOption (opened_by facts shapes l ls old) (DrawsNext facts verbose l.1 ls old refusal new)
     (λ outcome. (at : Position) × OpensBlock outcome old.sketch.names refusal at
     × (new ≡ at_position old.sketch at))
 
 -- one line more was drawn, or one turn more ended; or it was refused with this code
-abbrev pub Advances : {S : Type 0} → Ghosts S → Bool → Progress S → Option ℕ → Progress S → Type 0
-Advances facts verbose old refusal new = AdvancesOver facts verbose old.lines old refusal new
+abbrev pub Advances : {S : Type 0} → Ghosts S → Bool → List Shape → Progress S
+    → Option ℕ → Progress S → Type 0
+Advances facts verbose shapes old refusal new = AdvancesOver facts verbose shapes old.lines
+    old refusal new
 
 -- the same with another canvas
 abbrev pub on_canvas : {S : Type 0} → S → Progress S → Progress S
@@ -70,18 +75,21 @@ on_canvas canvas p = record {
 
 -- the same after the canvas has begun the line: where answers are written, each command is put by
 -- itself, and else what waits may be put first
-abbrev pub Steps : {S : Type 0} → Ghosts S → Bool → Progress S → Option ℕ → Progress S → Type 0
-Steps {S = S} facts verbose old refusal new =
+abbrev pub Steps : {S : Type 0} → Ghosts S → Bool → List Shape → Progress S → Option ℕ
+    → Progress S → Type 0
+Steps {S = S} facts verbose shapes old refusal new =
     (canvas : S) × facts.begins old.sketch.canvas verbose canvas
-    × Advances facts verbose (on_canvas canvas old) refusal new
+    × Advances facts verbose shapes (on_canvas canvas old) refusal new
 
 -- ---- A script
 
 -- so many lines were drawn and turns ended, one after the other, and none was refused
-abbrev pub ComesTo : {S : Type 0} → Ghosts S → Bool → Progress S → ℕ → Progress S → Type 0
-ComesTo facts verbose first zero new = new ≡ first
-ComesTo {S = S} facts verbose first (suc n) new =
-    (mid : Progress S) × ComesTo facts verbose first n mid × Steps facts verbose mid None new
+abbrev pub ComesTo : {S : Type 0} → Ghosts S → Bool → List Shape → Progress S → ℕ
+    → Progress S → Type 0
+ComesTo facts verbose shapes first zero new = new ≡ first
+ComesTo {S = S} facts verbose shapes first (suc n) new =
+    (mid : Progress S) × ComesTo facts verbose shapes first n mid
+    × Steps facts verbose shapes mid None new
 
 -- no line is to come, and no block is open
 abbrev pub IsOver : {S : Type 0} → Progress S → Type 0
@@ -107,44 +115,48 @@ at_first canvas written lines = record {
 }
 
 -- after so many lines one was refused with this code, or the limit was met, and it is 48
-abbrev pub Refuses : {S : Type 0} → Ghosts S → Bool → ℕ → ℕ → Progress S → ℕ → Progress S → Type 0
-Refuses facts verbose limit n old code new =
-    ((n < limit) × Steps facts verbose old (Some code) new)
+abbrev pub Refuses : {S : Type 0} → Ghosts S → Bool → List Shape → ℕ → ℕ → Progress S
+    → ℕ → Progress S → Type 0
+Refuses facts verbose shapes limit n old code new =
+    ((n < limit) × Steps facts verbose shapes old (Some code) new)
     ⊎ ((n ≡ limit) × (code ≡ 48) × (new ≡ old))
 
 -- ---- How a call ended
 
 -- all lines were drawn, and what waited was put
-pub record IsAllDrawn {S : Type 0} (facts : Ghosts S) (verbose : Bool) (first : Progress S)
+pub record IsAllDrawn {S : Type 0} (facts : Ghosts S) (verbose : Bool) (shapes : List Shape)
+    (first : Progress S)
     (limit : ℕ) (canvas : S) (written : Option (List ℕ)) : Type 0 where
   pub count : ℕ
   pub last : Progress S
   pub within : count ≤ limit
-  pub reached : ComesTo facts verbose first count last
+  pub reached : ComesTo facts verbose shapes first count last
   pub over : IsOver last
   pub put : facts.settles last.sketch.canvas canvas
   pub has : written ≡ last.sketch.written
 
 -- The lines before one were drawn, and the one at the stop's place was refused with its code. With 30
 -- it may be the first of those that were to be put together.
-pub record IsStoppedAt {S : Type 0} (facts : Ghosts S) (verbose : Bool) (first : Progress S)
+pub record IsStoppedAt {S : Type 0} (facts : Ghosts S) (verbose : Bool) (shapes : List Shape)
+    (first : Progress S)
     (limit : ℕ) (stop : Stop) (canvas : S) (written : Option (List ℕ)) : Type 0 where
   pub count : ℕ
   pub before : Progress S
   pub after : Progress S
-  pub reached : ComesTo facts verbose first count before
+  pub reached : ComesTo facts verbose shapes first count before
   pub at_place : IsAtPlace before.lines before.turns stop.place
-  pub refused : Refuses facts verbose limit count before stop.code after
+  pub refused : Refuses facts verbose shapes limit count before stop.code after
   pub put : facts.settles after.sketch.canvas canvas
   pub has : written ≡ after.sketch.written
 
 -- this is the canvas after the lines that were drawn before memory ran out or the writer failed; what
 -- waited was put then, or is lost
-pub record IsCutOff {S : Type 0} (facts : Ghosts S) (verbose : Bool) (first : Progress S)
+pub record IsCutOff {S : Type 0} (facts : Ghosts S) (verbose : Bool) (shapes : List Shape)
+    (first : Progress S)
     (canvas : S) : Type 0 where
   pub count : ℕ
   pub last : Progress S
-  pub reached : ComesTo facts verbose first count last
+  pub reached : ComesTo facts verbose shapes first count last
   pub left : S
   pub settled : (left ≡ last.sketch.canvas) ⊎ ((begun : S)
       × facts.begins last.sketch.canvas verbose begun × facts.settles begun left)
@@ -152,14 +164,14 @@ pub record IsCutOff {S : Type 0} (facts : Ghosts S) (verbose : Bool) (first : Pr
 
 -- how a call ended that began before the first line: all were drawn; or those before a refused one;
 -- or those before memory ran out or the writer failed
-abbrev pub EndsFrom : {S : Type 0} → Ghosts S → Bool → Progress S → ℕ
+abbrev pub EndsFrom : {S : Type 0} → Ghosts S → Bool → List Shape → Progress S → ℕ
     → Result (Option Stop) ScriptError → S → Option (List ℕ) → Type 0
-EndsFrom facts verbose first limit (Ok None) canvas written =
-    IsAllDrawn facts verbose first limit canvas written
-EndsFrom facts verbose first limit (Ok (Some stop)) canvas written =
-    IsStoppedAt facts verbose first limit stop canvas written
-EndsFrom facts verbose first limit (Err error) canvas written =
-    ((error ≡ OutOfMemory) ⊎ (error ≡ WriterFailed)) × IsCutOff facts verbose first canvas
+EndsFrom facts verbose shapes first limit (Ok None) canvas written =
+    IsAllDrawn facts verbose shapes first limit canvas written
+EndsFrom facts verbose shapes first limit (Ok (Some stop)) canvas written =
+    IsStoppedAt facts verbose shapes first limit stop canvas written
+EndsFrom facts verbose shapes first limit (Err error) canvas written =
+    ((error ≡ OutOfMemory) ⊎ (error ≡ WriterFailed)) × IsCutOff facts verbose shapes first canvas
 
 -- the blocks of a script are out of order at a place: it is refused there with 47, and nothing is
 -- drawn
@@ -175,6 +187,7 @@ abbrev pub IsScriptDrawn : {S : Type 0} → Ghosts S → Bool → List (ℕ × L
     → Result (Option Stop) ScriptError → S → Option (List ℕ) → S → Option (List ℕ) → Type 0
 IsScriptDrawn facts verbose lines result canvas-old writer-old canvas-new writer-new =
     MatchOption (order_fault lines)
-    (EndsFrom facts verbose (at_first canvas-old writer-old lines) (line_limit lines) result
+    (EndsFrom facts verbose (shapes_in (with_places lines)) (at_first
+    canvas-old writer-old lines) (line_limit lines) result
     canvas-new writer-new)
     (λ place. IsOutOfOrder place result canvas-old writer-old canvas-new writer-new)

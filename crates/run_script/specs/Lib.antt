@@ -1,5 +1,7 @@
 pub mod Blocks
+pub mod Calls
 pub mod Canvases
+pub mod Defined
 pub mod Drawings
 pub mod Drawn
 pub mod Errors
@@ -7,9 +9,11 @@ pub mod Given
 pub mod Lines
 pub mod LossLaws
 pub mod Names
+pub mod Opened
 pub mod Places
 pub mod PutLaws
 pub mod Refused
 pub mod Shaped
+pub mod ShapePlaces
 pub mod Turns
 pub mod Waiting

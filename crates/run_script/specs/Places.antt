@@ -4,6 +4,7 @@ use Rattle.map_script.specs.Scopes.{Scope, with_block}
 use Rattle.map_script.specs.declared.names.Mark.{Mark}
 use Rattle.map_script.specs.declared.placing.Placing.{Placing}
 use Rattle.run_script.specs.Blocks.{lines_between}
+use Rattle.run_script.specs.Defined.{Shape}
 use Rattle.run_script.specs.Drawn.{Advances, Progress}
 use Rattle.run_script.specs.Lines.{sketch_of}
 use Rattle.run_script.specs.Turns.{Counting, Position, Turn, counted_names}
@@ -90,10 +91,10 @@ pub record IsFirstReading (count : ℕ) (r : Reading) : Type 0 where
 -- how a call ended that should draw one line or end one turn: it was done, or refused with a code; or
 -- memory ran out or the writer failed, and it was done but for what was to be said, or nothing was
 -- drawn
-abbrev pub AdvancesTo : {S : Type 0} → Ghosts S → Bool → Progress S
+abbrev pub AdvancesTo : {S : Type 0} → Ghosts S → Bool → List Shape → Progress S
     → Result (Option ℕ) ScriptError → Progress S → Type 0
-AdvancesTo facts verbose old (Ok refusal) new = Advances facts verbose old refusal new
-AdvancesTo {S = S} facts verbose old (Err error) new =
+AdvancesTo facts verbose shapes old (Ok refusal) new = Advances facts verbose shapes old refusal new
+AdvancesTo {S = S} facts verbose shapes old (Err error) new =
     ((error ≡ OutOfMemory) ⊎ (error ≡ WriterFailed))
     × (facts.settles old.sketch.canvas new.sketch.canvas ⊎ ((last : Progress S)
-    × Advances facts verbose old None last × (new.sketch.canvas ≡ last.sketch.canvas)))
+    × Advances facts verbose shapes old None last × (new.sketch.canvas ≡ last.sketch.canvas)))

@@ -1,51 +1,19 @@
--- The open blocks: which lines come next, which names hold and how lines are placed
+-- How blocks begin and end: which lines come next, which names hold and how lines are placed
 -- (docs/COMMANDS.md, "Blocks").
-use Rattle.std.specs.Prelude.{◌≡◌, ◌⊎◌, ℕ, ℤ, pos, ◌+ℤ◌, int_le, int_lt, if◌then◌else◌, List, [], ◌∷◌, ◌++◌, Option, Some, None, Result, Ok, Err, MatchResult}
+use Rattle.std.specs.Prelude.{◌≡◌, ◌⊎◌, ℕ, pos, ◌+ℤ◌, int_le, int_lt, if◌then◌else◌, List, [], ◌∷◌, ◌++◌, Option, Some, None, Result, Ok, Err, MatchResult}
 use Rattle.map_tables.specs.Tables.{Tables}
 use Rattle.map_script.specs.Ats.{at_placing, at_words}
+use Rattle.map_script.specs.Defines.{define_fault, define_words}
 use Rattle.map_script.specs.Errors.{code_of}
 use Rattle.map_script.specs.Loops.{loop_name, loop_range, loop_words}
-use Rattle.map_script.specs.Scopes.{Scope, mark_of, released, with_block, with_turn_name}
+use Rattle.map_script.specs.Scopes.{Scope, mark_of, released}
 use Rattle.map_script.specs.declared.error.DrawError.{DrawError}
 use Rattle.map_script.specs.declared.looping.Range.{Range}
-use Rattle.map_script.specs.declared.names.Mark.{Mark}
 use Rattle.map_script.specs.declared.placing.Placing.{Placing}
 use Rattle.run_script.specs.Blocks.{behind_block, block_lines}
-
--- what a loop counts: its name, the number of its turn and the last one
-pub record Counting : Type 0 where
-  pub name : List ℕ
-  pub number : ℤ
-  pub last : ℤ
-
--- an open block: the place of the line that opened it, what it counts if it is a loop's, its lines
--- and those behind it in the block around it, and what is as before when it ends
-pub record Turn : Type 0 where
-  pub place : ℕ
-  pub count : Option Counting
-  pub body : List (ℕ × (ℕ × List ℕ))
-  pub behind : List (ℕ × (ℕ × List ℕ))
-  pub before : Mark
-
--- where a script has come: the names that hold and the placing, the lines to come in the innermost
--- block, and the open blocks, the outermost first
-pub record Position : Type 0 where
-  pub names : Scope
-  pub lines : List (ℕ × (ℕ × List ℕ))
-  pub turns : List Turn
-
--- the names in a turn: that of a loop stands for its number
-abbrev pub counted_names : Scope → Option Counting → Scope
-counted_names names None = names
-counted_names names (Some c) = with_turn_name names c.name c.number
-
--- a turn has begun, which places lines so: those of its block are to come
-abbrev pub in_turn : Scope → Placing → List Turn → Turn → Position
-in_turn names placing turns t = record {
-  names = counted_names (with_block names placing) t.count;
-  lines = t.body;
-  turns = turns ++ t ∷ [];
-}
+use Rattle.run_script.specs.Defined.{Shape, shape_called}
+pub use Rattle.run_script.specs.Calls.{after_define, after_drawing, after_shape, in_shape, turn_of_shape}
+pub use Rattle.run_script.specs.Opened.{Counting, Position, Turn, counted_names, in_turn}
 
 -- ---- The beginning of a block
 
@@ -85,21 +53,33 @@ after_at names place lines turns (Err e) = Err e
 after_at names place lines turns (Ok placing) =
     Ok (in_turn names placing turns (turn_at names place lines None))
 
--- behind the line of a block, by what stands behind its `for`, or else behind its `at`
+-- behind a line by what stands behind its `define`, or else by the shape that it draws
+abbrev pub after_naming : Scope → Tables → ℕ → List (ℕ × (ℕ × List ℕ)) → List Turn
+    → List (List ℕ) → Option (List (List ℕ)) → Option Shape → Option (Result Position DrawError)
+after_naming names m place lines turns words (Some defined) shape =
+    Some (after_define names lines turns (define_fault defined))
+after_naming names m place lines turns words None shape =
+    after_shape names m place lines turns words shape
+
+-- behind the line of a block, by what stands behind its `for`, or else behind its `at`, or else in
+-- another way
 abbrev pub after_words : Scope → Tables → ℕ → List (ℕ × (ℕ × List ℕ)) → List Turn
     → Option (List (List ℕ)) → Option (List (List ℕ)) → Option (Result Position DrawError)
-after_words names m place lines turns (Some words) at =
+    → Option (Result Position DrawError)
+after_words names m place lines turns (Some words) at other =
     Some (after_loop names place lines turns words (loop_range names m words))
-after_words names m place lines turns None (Some words) =
+after_words names m place lines turns None (Some words) other =
     Some (after_at names place lines turns (at_placing names m words))
-after_words names m place lines turns None None = None
+after_words names m place lines turns None None other = other
 
 -- where a line at a place leads that opens a block before these lines, or what is wrong with it; none
 -- for a line that opens no block
-abbrev pub after_opening : Scope → Tables → ℕ → List (ℕ × (ℕ × List ℕ)) → List Turn
+abbrev pub after_opening : Scope → Tables → List Shape → ℕ → List (ℕ × (ℕ × List ℕ)) → List Turn
     → List (List ℕ) → Option (Result Position DrawError)
-after_opening names m place lines turns words =
+after_opening names m shapes place lines turns words =
     after_words names m place lines turns (loop_words words) (at_words words)
+    (after_naming names m place lines turns words (define_words words)
+    (shape_called shapes place words))
 
 -- the line of a block was met, with these names, or refused with this code: for what is wrong with
 -- it, or for lack of memory

@@ -4,7 +4,7 @@ ghost use Rattle.map_script.specs.Loops.{closes};
 ghost use Rattle.map_script.specs.Views.{seen};
 ghost use Rattle.run_script.specs.Blocks.{lines_between, order_fault, block_len, depth_after, is_misplaced, with_places};
 
-use map_script::{ScriptLine, closes, opens};
+use map_script::{ScriptLine, closes, define_words, opens};
 
 // How many blocks are open behind a line, if so many were before it.
 fn depth_after(depth: usize, line: &[u8]) -> usize
@@ -47,11 +47,13 @@ pub fn block_len(lines: &[ScriptLine], from: usize, until: usize) -> usize
     until - from
 }
 
-// Whether a line closes a block where none is open, or opens one within 64 others.
+// Whether a line closes a block where none is open, opens one within 64 others, or defines a shape within one.
 fn is_misplaced(depth: usize, line: &[u8]) -> bool
     ensures { result ≡ is_misplaced depth line.now }
 {
-    (closes(line) && depth == 0) || (opens(line) && depth == 64)
+    (closes(line) && depth == 0)
+        || (opens(line) && depth == 64)
+        || (define_words(line).is_some() && depth != 0)
 }
 
 // Where the outermost open block begins, seen from a place: there if none is open before it.

@@ -5,17 +5,21 @@ ghost use Rattle.map_script.specs.Scopes.{first_scope};
 ghost use Rattle.map_script.specs.Views.{seen};
 ghost use Rattle.run_script.specs.Blocks.{with_places};
 ghost use Rattle.run_script.specs.Canvases.{NothingWaits};
+ghost use Rattle.run_script.specs.Defined.{shapes_in};
 ghost use Rattle.run_script.specs.Drawn.{EndsFrom, IsScriptDrawn, at_first, line_limit};
 ghost use Rattle.run_script.specs.Places.{AdvancesTo, IsFirstReading, IsWithinLines, progress_of};
+ghost use Rattle.run_script.specs.ShapePlaces.{AreShapesWithin, shapes_among};
 
 use crate::blocks::order_fault;
 use crate::canvas::Canvas;
+use crate::defined::{Shape, shape_called, shapes_in};
 use crate::ending::end_turn;
 use crate::error::ScriptError;
 use crate::line::draw_line;
 use crate::opening::{open_at, open_loop};
 use crate::reading::{Reading, place_at_hand};
-use map_script::{DrawError, Names, ScriptLine, at_words, loop_words};
+use crate::shape_lines::{open_shape, pass_define};
+use map_script::{DrawError, Names, ScriptLine, at_words, define_words, loop_words};
 use std::alloc::Global;
 use std::io::Write;
 use store_project::ProjectError;
@@ -49,14 +53,16 @@ fn draw_next<C: Canvas, W: Write>(
     canvas: &mut C,
     names: &mut Names,
     lines: &[ScriptLine],
+    shapes: &[Shape],
     reading: &mut Reading,
     is_verbose: bool,
     writer: &mut W,
 ) -> Result<Option<u16>, ScriptError>
     requires within { IsWithinLines (length lines.now) reading.old }
+    requires shapes { AreShapesWithin (length lines.now) shapes.now }
     requires some { reading.old.place < reading.old.until }
     ensures advanced { let all = with_places (map seen lines.now) in
-        AdvancesTo C.Canvas is_verbose
+        AdvancesTo C.Canvas is_verbose (shapes_among all shapes.now)
         (progress_of all canvas.old (scope_of names.old) (W.contents writer.old) reading.old)
         result
         (progress_of all canvas.new (scope_of names.new) (W.contents writer.new) reading.new) }
@@ -70,6 +76,12 @@ fn draw_next<C: Canvas, W: Write>(
     if let Some(words) = at_words(&line.text) {
         return Ok(open_at(alloc, canvas, names, lines, reading, words));
     }
+    if let Some(words) = define_words(&line.text) {
+        return Ok(pass_define(names, lines, reading, words));
+    }
+    if let Some(shape) = shape_called(shapes, reading.place, &line.text) {
+        return Ok(open_shape(alloc, canvas, names, lines, reading, shape, &line.text));
+    }
     reading.place += 1;
     draw_line(alloc, canvas, names, line, is_verbose, writer)
 }
@@ -80,14 +92,16 @@ fn advance<C: Canvas, W: Write>(
     canvas: &mut C,
     names: &mut Names,
     lines: &[ScriptLine],
+    shapes: &[Shape],
     reading: &mut Reading,
     is_verbose: bool,
     writer: &mut W,
 ) -> Result<Option<u16>, ScriptError>
     requires within { IsWithinLines (length lines.now) reading.old }
+    requires shapes { AreShapesWithin (length lines.now) shapes.now }
     requires some { (reading.old.place < reading.old.until) ⊎ (0 < vec_len reading.old.blocks) }
     ensures advanced { let all = with_places (map seen lines.now) in
-        AdvancesTo C.Canvas is_verbose
+        AdvancesTo C.Canvas is_verbose (shapes_among all shapes.now)
         (progress_of all canvas.old (scope_of names.old) (W.contents writer.old) reading.old)
         result
         (progress_of all canvas.new (scope_of names.new) (W.contents writer.new) reading.new) }
@@ -95,7 +109,9 @@ fn advance<C: Canvas, W: Write>(
         IfNone refusal (IsWithinLines (length lines.now) reading.new)) }
 {
     if reading.place < reading.until {
-        draw_next(alloc, canvas, names, lines, reading, is_verbose, writer)
+        draw_next(
+            alloc, canvas, names, lines, shapes, reading, is_verbose, writer,
+        )
     } else {
         Ok(end_turn(alloc, names, lines, reading))
     }
@@ -136,18 +152,21 @@ fn cut_off<C: Canvas>(canvas: &mut C)
     let _ = canvas.settle();
 }
 
-// Draws the lines of a script whose blocks are in order.
+// Draws the lines of a script whose blocks are in order and which defines these shapes.
 fn draw_all<C: Canvas, W: Write>(
     alloc: Global,
     canvas: &mut C,
     names: &mut Names,
     lines: &[ScriptLine],
+    shapes: &[Shape],
     is_verbose: bool,
     writer: &mut W,
 ) -> Result<Option<Stop>, ScriptError>
     requires first { scope_of names.old ≡ first_scope }
+    requires shapes { AreShapesWithin (length lines.now) shapes.now }
     requires settled { NothingWaits C.Canvas canvas.old }
     ensures drawn { EndsFrom C.Canvas is_verbose
+        (shapes_among (with_places (map seen lines.now)) shapes.now)
         (at_first canvas.old (W.contents writer.old) (map seen lines.now))
         (line_limit (map seen lines.now)) result canvas.new (W.contents writer.new) }
     ensures place { IfOk result (λ stop. IfSome stop (λ s. s.place < length lines.now)) }
@@ -166,6 +185,7 @@ fn draw_all<C: Canvas, W: Write>(
             canvas,
             names,
             lines,
+            shapes,
             &mut reading,
             is_verbose,
             writer,
@@ -194,18 +214,43 @@ fn draw_all<C: Canvas, W: Write>(
     }
 }
 
+// Draws the lines of a script whose blocks are in order.
+fn draw_shaped<C: Canvas, W: Write>(
+    alloc: Global,
+    canvas: &mut C,
+    names: &mut Names,
+    lines: &[ScriptLine],
+    is_verbose: bool,
+    writer: &mut W,
+) -> Result<Option<Stop>, ScriptError>
+    requires first { scope_of names.old ≡ first_scope }
+    requires settled { NothingWaits C.Canvas canvas.old }
+    ensures drawn { let all = with_places (map seen lines.now) in
+        EndsFrom C.Canvas is_verbose (shapes_in all)
+        (at_first canvas.old (W.contents writer.old) (map seen lines.now))
+        (line_limit (map seen lines.now)) result canvas.new (W.contents writer.new) }
+    ensures place { IfOk result (λ stop. IfSome stop (λ s. s.place < length lines.now)) }
+{
+    match shapes_in(alloc, lines) {
+        Ok(shapes) => draw_all(alloc, canvas, names, lines, &shapes, is_verbose, writer),
+        Err(_) => {
+            cut_off(canvas);
+            Err(ScriptError::OutOfMemory)
+        }
+    }
+}
+
 /// Draws the lines of a script in order onto a project, or onto maps in memory: resolves the names in each line, and
 /// draws it, up to the first refused line. The lines of a loop's block are drawn once for each of its numbers, those of
-/// an `at` with their places placed.
+/// an `at` with their places placed, those of a shape where a line draws it.
 ///
 /// Answers to queries are written; for commands `NUMBER: ok N` is written if `is_verbose`. In a project the commands
 /// before a query are on the disk before it is answered, and so is a command whose answer is written. All others may
 /// wait, and go to the disk together; if that fails, the first line of those that were to go is refused (30), and none
 /// of them is drawn.
 ///
-/// `names` must be empty at
-/// first; after the call it has the names that the drawn lines gave. If the blocks are out of order, the script is
-/// refused (47), and nothing is drawn.
+/// `names` must be empty at first; after the call it has the names that the drawn lines gave. If the blocks are out of
+/// order, the script is refused (47), and nothing is drawn.
 ///
 /// # Errors
 ///
@@ -229,6 +274,6 @@ pub fn draw<C: Canvas, W: Write>(
             let code = DrawError::OpenBlock.code();
             Ok(Some(Stop { place, code }))
         }
-        None => draw_all(alloc, canvas, names, lines, is_verbose, writer),
+        None => draw_shaped(alloc, canvas, names, lines, is_verbose, writer),
     }
 }

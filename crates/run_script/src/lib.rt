@@ -2,10 +2,12 @@
 #![tactic(auto)]
 
 mod asking;
+mod block_reasons;
 mod blocks;
 mod calling;
 mod canvas;
 mod changing;
+mod defined;
 mod draft;
 mod drawing;
 mod ending;
@@ -18,6 +20,7 @@ mod project_canvas;
 mod reading;
 mod reasons;
 mod refused;
+mod shape_lines;
 mod shape_reasons;
 mod shaping;
 mod unfit;

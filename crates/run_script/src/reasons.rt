@@ -1,4 +1,5 @@
 //! Says what was wrong with a refused line.
+use crate::block_reasons::{reason_of_at, reason_of_define, reason_of_let, reason_of_loop};
 use crate::calling::says;
 use crate::forms::{count_words, first_word, form_near, form_of, range_at};
 use crate::particulars::{in_use, map_names, too_long};
@@ -7,7 +8,7 @@ use crate::unfit::{form_meant, unfit};
 use lump_records::{Vertex, is_marker, is_name};
 use map_commands::{Command, ProjectCommand, RoomPlan, parse};
 use map_script::{
-    DrawError, Names, ScriptLine, at_placing, at_words, let_words, loop_words, resolve,
+    DrawError, Names, ScriptLine, at_words, define_words, let_words, loop_words, resolve,
 };
 use map_shapes::{ShapeError, ShapeHead, shape_head_in};
 use map_tables::{Edit, Item, Kind, Map, Maps};
@@ -42,7 +43,9 @@ fn meant(alloc: Global, text: &str) -> Result<String, AllocError> {
         }
         None => match form_meant(first).or(form_near(first)) {
             Some(form) => format!(in alloc; "perhaps this is meant: {form}"),
-            None => format!(in alloc; "no command and no query begins with {first}"),
+            None => format!(in alloc;
+                "no command and no query begins with {first}, and no shape that has so many words"
+            ),
         },
     }
 }
@@ -290,7 +293,7 @@ fn bad_sum(
 }
 
 // Says what was wrong with a line whose references stand for nothing.
-fn reason_of_reference(
+pub fn reason_of_reference(
     alloc: Global,
     map: &Map,
     names: &Names,
@@ -309,64 +312,6 @@ fn reason_of_reference(
             "a place is $vertex(X,Y), $line(X,Y), $sector(X,Y) or $thing(X,Y), with or without +N"
         ),
         _ => says(alloc, error.code()),
-    }
-}
-
-// Says what was wrong with the NAME WORD .. of a `let`.
-fn reason_of_let(
-    alloc: Global,
-    map: &Map,
-    names: &Names,
-    words: &[u8],
-    code: u16,
-) -> Result<String, AllocError> {
-    match code {
-        1 => format!(in alloc; "this is its form: let NAME WORD .."),
-        20 => format!(in alloc;
-            "NAME is a letter, then letters, digits and _, and no word of the language"
-        ),
-        _ => match resolve(alloc, names, map, words) {
-            Ok(_) => says(alloc, code),
-            Err(error) => reason_of_reference(alloc, map, names, words, error),
-        },
-    }
-}
-
-// Says what was wrong with the NAME FROM TO of a loop.
-fn reason_of_loop(
-    alloc: Global,
-    map: &Map,
-    names: &Names,
-    words: &[u8],
-    code: u16,
-) -> Result<String, AllocError> {
-    match code {
-        1 => format!(in alloc; "this is its form: for NAME FROM TO"),
-        20 => reason_of_let(alloc, map, names, words, code),
-        _ => match resolve(alloc, names, map, words) {
-            Ok(_) if code == 46 => format!(in alloc; "FROM and TO are whole numbers of 64 bits"),
-            Ok(_) => says(alloc, code),
-            Err(error) => reason_of_reference(alloc, map, names, words, error),
-        },
-    }
-}
-
-// Says what was wrong with the X Y [ANGLE] of an `at`.
-fn reason_of_at(
-    alloc: Global,
-    map: &Map,
-    names: &Names,
-    words: &[u8],
-    code: u16,
-) -> Result<String, AllocError> {
-    match (code, at_placing(alloc, names, map, words)) {
-        (1, _) => format!(in alloc; "this is its form: at X Y [ANGLE]"),
-        (2, Err(error)) => format!(in alloc; "{error}"),
-        _ => match resolve(alloc, names, map, words) {
-            Ok(_) if code == 46 => format!(in alloc; "X, Y and ANGLE are whole numbers"),
-            Ok(_) => says(alloc, code),
-            Err(error) => reason_of_reference(alloc, map, names, words, error),
-        },
     }
 }
 
@@ -389,6 +334,9 @@ pub fn reason_of(
     }
     if let Some(words) = at_words(&line.text) {
         return reason_of_at(alloc, maps.current(), names, words, code);
+    }
+    if define_words(&line.text).is_some() {
+        return reason_of_define(alloc, code);
     }
     let text = match resolve(alloc, names, maps.current(), &line.text) {
         Ok(text) => text,

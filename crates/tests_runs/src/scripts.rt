@@ -66,7 +66,7 @@ const SCRIPTS: &[(&[u8], bool, &[u8], &[u8])] = &[
     (b"for = vertex 0 0\nend = vertex 1 1\nvertex $for+8 $end", true, b"1: ok 0\n2: ok 1\n3: ok 2\n", b""),
     (b"vertex 0 0\nfor i 0 9\nfor j 0 9\nend\ncount", true, b"",
         b"level.txt:2: for i 0 9: 47 OpenBlock\n  \
-        a for or an at without its end, an end without them, or blocks more than 64 deep\n"),
+        a block without its end, an end without a block, a define in a block, or blocks more than 64 deep\n"),
     (b"at 10 20 90\nthing 1 2 300 1 7\nat -5 0 180\nvertex 3 4\nthing 0 0 270 2 7\nend\n\
         move-vertex $vertex(-8,-4) 0 0\nend\nhex THINGS\nvertex 14 12\nvertex 10 20", true,
         b"2: ok 0\n4: ok 0\n5: ok 1\n7: ok 0\n\
@@ -85,10 +85,33 @@ const SCRIPTS: &[(&[u8], bool, &[u8], &[u8])] = &[
         b"level.txt:6: vertex $at $w: 22 UnknownName\n  no line before has this name\n"),
     (b"vertex 0 0\nat 0 0\ncount", true, b"",
         b"level.txt:2: at 0 0: 47 OpenBlock\n  \
-        a for or an at without its end, an end without them, or blocks more than 64 deep\n"),
+        a block without its end, an end without a block, a define in a block, or blocks more than 64 deep\n"),
+    (b"define column X Y\nvertex $X $Y\nvertex $X+8 $Y\nend\ncolumn 0 0\nfor i 1 2\ncolumn 16*$i 32\nend\ncount", true,
+        b"2: ok 0\n3: ok 1\n2: ok 2\n3: ok 3\n2: ok 4\n3: ok 5\nvertices 6 sectors 0 sides 0 lines 0 things 0\n", b""),
+    (b"let w 8\nv = vertex 0 0\ndefine mark X\nv = vertex $X $w\nlet w 16\nvertex $X $w\nvertex $v+50 $X\nend\nmark 1\n\
+        vertex $v+90 $w\nthing $vertex(51,1) $vertex(90,8) 0 1 7\nvertex $X 0", true,
+        b"2: ok 0\n4: ok 1\n6: ok 2\n7: ok 3\n10: ok 4\n11: ok 0\n",
+        b"level.txt:12: vertex $X 0: 22 UnknownName\n  no line before has this name\n"),
+    (b"define post\nthing 8 0 0 1 7\nend\nat 100 0 90\npost\nend\nhex THINGS", true,
+        b"2: ok 0\n64 00 08 00 5a 00 01 00 07 00\n", b""),
+    (b"define row N\nfor i 1 $N\nlast = vertex $i 0\nend\nvertex $last 9\nend\nrow 3", true,
+        b"3: ok 0\n3: ok 1\n3: ok 2\n5: ok 3\n", b""),
+    (b"let x 5\ndefine a y\nlet x 7\nvertex $y $x\nend\na $x+1\nvertex 6 7", true, b"4: ok 0\n",
+        b"level.txt:7: vertex 6 7: 10 PlaceTaken\n  vertex 0 stands at 6 7\n"),
+    (b"let p 3 4\ndefine a X Y\nvertex $X $Y\nend\na $p\ndefine a\nvertex 1 1\nend\na\na $p", true,
+        b"3: ok 0\n7: ok 1\n", b"level.txt:10: a $p: 1 NotACommand\n  \
+        no command and no query begins with a, and no shape that has so many words\n"),
+    (b"define one\ntwo\nend\ndefine two\nvertex 0 0\nend\ntwo\none", true, b"5: ok 0\n",
+        b"level.txt:2: two: 1 NotACommand\n  \
+        no command and no query begins with two, and no shape that has so many words\n"),
+    (b"vertex 0 0\nfor i 0 1\ndefine a\nend\nend", true, b"",
+        b"level.txt:3: define a: 47 OpenBlock\n  \
+        a block without its end, an end without a block, a define in a block, or blocks more than 64 deep\n"),
+    (b"define vertex X\nend", true, b"", b"level.txt:1: define vertex X: 20 NotAName\n  \
+        NAME and each PARAM is a letter, then letters, digits and _, and no word of the language\n"),
     (b"for i 1 9223372036854775807\nend", true, b"",
         b"level.txt:1: for i 1 9223372036854775807: 48 TooManyLines\n  \
-        the turns of loops draw more than 1000000 lines\n"),
+        loops and shapes draw more than 1000000 lines\n"),
 ];
 
 // The same for a script.
@@ -116,7 +139,8 @@ const REFUSED: &[(&[u8], &[u8])] = &[
     (b"drop wall 0", b"1 NotACommand\n  wall stands for KIND: vertex, sector, side, line or thing\n"),
     (b"linedef 0 1", b"1 NotACommand\n  perhaps this is meant: line V1 V2 FLAGS SPECIAL TAG RIGHT LEFT\n"),
     (b"frame = count", b"1 NotACommand\n  a query answers no number that a name could keep\n"),
-    (b"corner 0 0", b"1 NotACommand\n  no command and no query begins with corner\n"),
+    (b"corner 0 0", b"1 NotACommand\n  no command and no query begins with corner, and no shape that has so \
+        many words\n"),
     (b"thing 0 0 400 1 7", b"2 OutOfRange\n  400 stands for ANGLE, a number from 0 to 359\n"),
     (b"room 64 0 64 9 0 128 FLOOR4_8 CEIL3_5 STARTAN3 160",
         b"2 OutOfRange\n  X1 is to be less than X2, and Y1 less than Y2\n"),
@@ -173,7 +197,8 @@ const REFUSED: &[(&[u8], &[u8])] = &[
     (b"at 0 0 45\nend", b"2 OutOfRange\n  ANGLE is 0, 90, 180 or 270\n"),
     (b"at 0 x\nend", b"46 BadSum\n  X, Y and ANGLE are whole numbers\n"),
     (b"at $v/0 0\nend", b"46 BadSum\n  $v/0: a quotient of the sum isn't a whole number\n"),
-    (b"end", b"47 OpenBlock\n  a for or an at without its end, an end without them, or blocks more than 64 deep\n"),
+    (b"end", b"47 OpenBlock\n  \
+        a block without its end, an end without a block, a define in a block, or blocks more than 64 deep\n"),
 ];
 
 // The lines before it.

@@ -5,14 +5,15 @@ use Rattle.run_script.specs.Blocks.{with_places}
 use Rattle.run_script.specs.Drawn.{ComesTo, at_first, line_limit}
 use Rattle.run_script.specs.Places.{IsWithinLines, progress_of}
 use Rattle.run_script.proofs.Grouped.{IsLostFrom}
+use Rattle.run_script.specs.ShapePlaces.{shapes_among}
 use Rattle.run_script.proofs.drawing.draw_all.Given as goal
 
 -- so many lines were drawn and turns ended, and where the first stands of those that wait
 abbrev pub invariant-loop-count : goal.invariant-loop-count
 invariant-loop-count g l = record {
-  reached : ComesTo g.C.Canvas l.is_verbose (at_first l.fn.canvas (g.W.Write.contents l.fn.writer) (map seen l.lines)) l._count
+  reached : ComesTo g.C.Canvas l.is_verbose (shapes_among (with_places (map seen l.lines)) l.shapes) (at_first l.fn.canvas (g.W.Write.contents l.fn.writer) (map seen l.lines)) l._count
       (progress_of (with_places (map seen l.lines)) l.canvas (scope_of l.names) (g.W.Write.contents l.writer) l.reading);
   within : IsWithinLines (length l.lines) l.reading;
-  lost : IsLostFrom g.C.Canvas l.is_verbose (at_first l.fn.canvas (g.W.Write.contents l.fn.writer) (map seen l.lines)) (line_limit (map seen l.lines))
+  lost : IsLostFrom g.C.Canvas l.is_verbose (shapes_among (with_places (map seen l.lines)) l.shapes) (at_first l.fn.canvas (g.W.Write.contents l.fn.writer) (map seen l.lines)) (line_limit (map seen l.lines))
       (length l.lines) l.first (g.W.Write.contents l.writer) l.canvas;
 }

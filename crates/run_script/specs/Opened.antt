@@ -1,0 +1,40 @@
+-- The blocks that are open, and where a script has come (docs/COMMANDS.md, "Blocks").
+use Rattle.std.specs.Prelude.{ℕ, ℤ, List, [], ◌∷◌, ◌++◌, Option, Some, None}
+use Rattle.map_script.specs.Scopes.{Scope, with_block, with_turn_name}
+use Rattle.map_script.specs.declared.names.Mark.{Mark}
+use Rattle.map_script.specs.declared.placing.Placing.{Placing}
+
+-- what a loop counts: its name, the number of its turn and the last one
+pub record Counting : Type 0 where
+  pub name : List ℕ
+  pub number : ℤ
+  pub last : ℤ
+
+-- an open block: the place of the line that opened it, what it counts if it is a loop's, its lines
+-- and those behind it in the block around it, and what is as before when it ends
+pub record Turn : Type 0 where
+  pub place : ℕ
+  pub count : Option Counting
+  pub body : List (ℕ × (ℕ × List ℕ))
+  pub behind : List (ℕ × (ℕ × List ℕ))
+  pub before : Mark
+
+-- where a script has come: the names that hold and the placing, the lines to come in the innermost
+-- block, and the open blocks, the outermost first
+pub record Position : Type 0 where
+  pub names : Scope
+  pub lines : List (ℕ × (ℕ × List ℕ))
+  pub turns : List Turn
+
+-- the names in a turn: that of a loop stands for its number
+abbrev pub counted_names : Scope → Option Counting → Scope
+counted_names names None = names
+counted_names names (Some c) = with_turn_name names c.name c.number
+
+-- a turn has begun, which places lines so: those of its block are to come
+abbrev pub in_turn : Scope → Placing → List Turn → Turn → Position
+in_turn names placing turns t = record {
+  names = counted_names (with_block names placing) t.count;
+  lines = t.body;
+  turns = turns ++ t ∷ [];
+}
