@@ -1,12 +1,12 @@
 -- The table of the names that blocks hold: where the newest of each stands, and which one each hides.
-use Rattle.std.proofs.Common.{◌≡◌, ℕ, ◌+◌, ◌<◌, Bool, true, false, cond, List, [], ◌∷◌, ◌++◌, map, length, get_or, set, refl, ap, ap₂, sym, subst, ◌∙◌, arith, Option, Some, None}
+use Rattle.std.proofs.Common.{◌≡◌, ℕ, Bool, true, false, cond, List, [], ◌∷◌, ◌++◌, map, length, get_or, set, refl, ap, ap₂, sym, ◌∙◌, Option, Some, None}
 use Rattle.std.proofs.lemmas.List.{append_assoc, map-append}
 use Rattle.std.proofs.lemmas.Slice.Eq.{bytes_eq-Decides}
 use Rattle.std.specs.Prelude.{bytes_eq, zero, suc, Vec}
 use Rattle.std.specs.Global.{Global}
 use Rattle.std.specs.Map.{lookup}
 use Rattle.indexmap.specs.IndexMap.{insert_entry}
-use Rattle.map_script.specs.Held.{HideOlder, HasNewest, newest_of, place_noted, or_here, held_place}
+use Rattle.map_script.specs.Held.{HideOlder, HasNewest, newest_of, place_noted, held_place}
 use Rattle.map_script.specs.declared.held.Entry.{Entry}
 use Rattle.map_script.specs.declared.meaning.Meaning.{Meaning}
 use Rattle.map_script.proofs.Holding.{newest_behind, newest_same, with_sense}

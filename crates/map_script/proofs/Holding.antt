@@ -1,11 +1,6 @@
 -- The names that blocks hold.
-use Rattle.std.proofs.Common.{◌≡◌, ℕ, ◌+◌, ◌-◌, ◌<◌, ◌≤◌, Bool, true, false, cond, List, [], ◌∷◌, ◌++◌, map, length, get_or, take, drop, set, refl, ap, ap₂, sym, subst, ◌∙◌, arith, Option, Some, None}
-use Rattle.std.proofs.lemmas.List.{length-take-le, take_more, take_all}
-use Rattle.std.specs.Prelude.{bytes_eq, zero, suc, Vec, is_some}
-use Rattle.std.specs.Global.{Global}
-use Rattle.std.specs.Map.{lookup}
-use Rattle.std.proofs.lemmas.Slice.Eq.{bytes_eq-Decides}
-use Rattle.indexmap.specs.IndexMap.{insert_entry}
+use Rattle.std.proofs.Common.{◌≡◌, ℕ, ◌+◌, ◌<◌, Bool, true, false, cond, List, [], ◌∷◌, ◌++◌, map, length, get_or, set, refl, ap, ap₂, sym, subst, ◌∙◌, arith, Option, Some, None}
+use Rattle.std.specs.Prelude.{bytes_eq, suc}
 use Rattle.map_script.specs.Held.{held_entry, in_front_of, newest_of, or_here}
 use Rattle.map_script.specs.Meant.{Meant, meant, meant_by, with_meaning}
 use Rattle.map_script.specs.declared.held.Entry.{Entry}

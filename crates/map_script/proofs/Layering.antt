@@ -1,7 +1,7 @@
 -- The names of frames, each in front of those behind it.
-use Rattle.std.proofs.Common.{◌≡◌, ℕ, ◌+◌, ◌-◌, ◌<◌, ◌≤◌, Bool, true, false, cond, List, [], ◌∷◌, ◌++◌, map, length, get_or, take, drop, refl, ap, ap₂, sym, subst, ◌∙◌, arith, Option, Some, None}
+use Rattle.std.proofs.Common.{◌≡◌, ℕ, ◌+◌, ◌<◌, ◌≤◌, Bool, true, false, cond, List, [], ◌∷◌, ◌++◌, length, get_or, take, refl, ap, sym, ◌∙◌, arith, Option, Some, None}
 use Rattle.std.proofs.lemmas.List.{take_more, take_all}
-use Rattle.std.specs.Prelude.{bytes_eq, zero, suc, is_some}
+use Rattle.std.specs.Prelude.{bytes_eq, suc, is_some}
 use Rattle.map_script.specs.Frames.{known_in, layer_of, layers_in_front}
 use Rattle.map_script.specs.Layers.{Layer, layered}
 use Rattle.map_script.specs.Meant.{Meant, meant_by, with_meaning}

@@ -1,6 +1,6 @@
 -- A block within a block: its places are placed by it, then by the block around it.
 use Rattle.std.proofs.Common.{◌≡◌, Bool, true, false, cond, ◌&&◌, refl, ◌∙◌, ap, sym, arith, Option, Some, None, Result, Ok, Err}
-use Rattle.std.specs.Prelude.{ℤ, ◌+ℤ◌, neg_ℤ, IfOk}
+use Rattle.std.specs.Prelude.{ℤ, ◌+ℤ◌, IfOk}
 use Rattle.std.specs.Int.RustNames.{int_le}
 use Rattle.lump_records.specs.declared.limits.TheConstants.{GREATEST_COORDINATE, LEAST_COORDINATE}
 use Rattle.std.proofs.Math.IntN.{neg_ℤ-neg_ℤ}

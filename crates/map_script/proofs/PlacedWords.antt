@@ -1,5 +1,5 @@
 -- Lines whose places are placed, word by word.
-use Rattle.std.proofs.Common.{◌≡◌, ℕ, zero, suc, ◌-◌, ◌<◌, List, [], ◌∷◌, ◌++◌, take, drop, refl, sym, ◌∙◌, ap, ap₂, arith, Result, Ok, Err}
+use Rattle.std.proofs.Common.{◌≡◌, ℕ, zero, suc, ◌-◌, ◌<◌, List, [], ◌∷◌, ◌++◌, take, drop, refl, sym, ◌∙◌, ap, arith, Result, Ok, Err}
 use Rattle.std.specs.Prelude.{IfOk}
 use Rattle.std.specs.List.{join_with_byte}
 use Rattle.map_script.proofs.Cleaning.{joined}

@@ -1,5 +1,5 @@
 -- Where an `at` places the lines of its block: they are turned about 0 0, then moved.
-use Rattle.std.specs.Prelude.{◌≡◌, ℕ, ℤ, pos, neg_ℤ, ◌+ℤ◌, ◌==◌, ◌&&◌, Bool, if◌then◌else◌, List, Option, Some, None, int_lt}
+use Rattle.std.specs.Prelude.{◌≡◌, ℕ, ℤ, pos, neg_ℤ, ◌+ℤ◌, ◌&&◌, Bool, if◌then◌else◌, List, Option, Some, None, int_lt}
 use Rattle.std.specs.Int.RustNames.{int_le}
 use Rattle.std.specs.Option.{is_none}
 use Rattle.lump_records.specs.declared.limits.TheConstants.{GREATEST_COORDINATE, LEAST_COORDINATE}

@@ -1,5 +1,5 @@
 -- The numbers of a sum: they have 64 bits, and a quotient is whole.
-use Rattle.std.specs.Prelude.{ℕ, Bool, false, ◌^◌, ◌&&◌, ◌==◌, nat_lt, if◌then◌else◌, List, [], ◌∷◌, ℤ, pos, negsuc, ◌+ℤ◌, ◌-ℤ◌, ◌*ℤ◌, neg_ℤ, Option, Some, None, Result, Ok, Err, int_div, int_rem}
+use Rattle.std.specs.Prelude.{ℕ, Bool, false, ◌^◌, ◌==◌, nat_lt, if◌then◌else◌, List, [], ◌∷◌, ℤ, pos, negsuc, ◌+ℤ◌, ◌-ℤ◌, ◌*ℤ◌, neg_ℤ, Option, Some, None, Result, Ok, Err, int_div, int_rem}
 use Rattle.map_tables.specs.Tables.{Tables}
 use Rattle.map_tables.specs.declared.kind.Kind.{Kind}
 use Rattle.map_commands.specs.Words.{is_numeral}

@@ -1,10 +1,9 @@
-use Rattle.std.proofs.Common.{◌≡◌, ◌∙◌, ◌+◌, ◌++◌, ℕ, List, [], None, Some, ap, ap₂, sym, take}
+use Rattle.std.proofs.Common.{◌∙◌, ℕ, List, [], ap, sym, take}
 use Rattle.std.specs.Prelude.{option_copied}
 use Rattle.map_script.specs.Frames.{layers_in_front}
 use Rattle.map_script.specs.Layers.{layered}
-use Rattle.map_script.specs.Meant.{Meant, meant_by, meant_in}
+use Rattle.map_script.specs.Meant.{meant_by, meant_in}
 use Rattle.map_script.specs.declared.frame.Frame.{Frame}
-use Rattle.map_script.specs.declared.meaning.Meaning.{Meaning}
 use Rattle.map_script.proofs.Layering.{found_more, or_else}
 use Rattle.map_script.proofs.names.find_in.Goals as goal
 use Rattle.map_script.proofs.names.find_in.Goals.{in-Some, in_default}

@@ -1,6 +1,4 @@
-use Rattle.std.proofs.Common.{◌≡◌, ◌-◌, ◌<◌, ℕ, List, drop, arith, Result, Ok, Err}
-use Rattle.std.specs.Prelude.{IfOk}
-use Rattle.map_script.specs.Words.{text_words}
+use Rattle.std.proofs.Common.{◌<◌, arith}
 use Rattle.map_script.proofs.PlacedWords.{some_left_of, some_put}
 use Rattle.map_script.proofs.placed.+put_some.Goals as goal
 

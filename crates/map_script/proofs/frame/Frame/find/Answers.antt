@@ -1,4 +1,4 @@
-use Rattle.std.proofs.Common.{◌≡◌, ◌∙◌, ℕ, List, None, Some, ap, map, sym}
+use Rattle.std.proofs.Common.{◌∙◌, ℕ, List, ap, map, sym}
 use Rattle.map_script.specs.Frames.{known_entry}
 use Rattle.map_script.specs.Meant.{Meant, meant_by, meant_in}
 use Rattle.map_script.proofs.Layering.{meant_front, or_else}

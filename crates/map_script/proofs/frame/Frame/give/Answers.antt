@@ -1,6 +1,5 @@
-use Rattle.std.proofs.Common.{◌≡◌, ◌∙◌, ◌++◌, ℕ, List, ap, ap₂, map, length, refl, sym}
+use Rattle.std.proofs.Common.{◌≡◌, ◌∙◌, ◌++◌, ℕ, List, ap, ap₂, map, length, sym}
 use Rattle.map_script.specs.Frames.{known_entry, known_in}
-use Rattle.map_script.specs.Layers.{Layer}
 use Rattle.map_script.specs.Meant.{Meant, meant, with_meaning}
 use Rattle.map_script.specs.declared.meaning.Meaning.{Meaning}
 use Rattle.map_script.proofs.Layering.{given_behind, given_front, given_long, layer_is}

@@ -1,4 +1,4 @@
-use Rattle.std.proofs.Common.{◌≡◌, [], ap, arith, length}
+use Rattle.std.proofs.Common.{[], ap, arith, length}
 use Rattle.map_script.proofs.Holding.{front_long}
 use Rattle.map_script.proofs.held.Held.len.Goals as goal
 

@@ -1,6 +1,5 @@
-use Rattle.std.proofs.Common.{◌≡◌, ◌∙◌, ◌∷◌, ◌++◌, ℕ, List, [], None, Some, ap, drop, sym, subst}
-use Rattle.map_script.specs.Held.{HasNewest, held_entry, in_front_of}
-use Rattle.map_script.specs.Meant.{Meant}
+use Rattle.std.proofs.Common.{◌∙◌, List, [], ap, drop, sym, subst}
+use Rattle.map_script.specs.Held.{HasNewest, in_front_of}
 use Rattle.map_script.specs.declared.held.Entry.{Entry}
 use Rattle.map_script.proofs.Hiding.{has_last, indexed_less}
 use Rattle.map_script.proofs.Holding.{front_more}

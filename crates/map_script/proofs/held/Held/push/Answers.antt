@@ -1,5 +1,5 @@
-use Rattle.std.proofs.Common.{◌≡◌, ◌∙◌, ◌∷◌, ◌++◌, ℕ, List, [], Some, ap, ap₂, arith, length, sym, subst}
-use Rattle.map_script.specs.Held.{HasNewest, in_front_of, held_place}
+use Rattle.std.proofs.Common.{◌≡◌, ◌∙◌, ◌∷◌, ℕ, List, [], ap, ap₂, arith, length, sym}
+use Rattle.map_script.specs.Held.{in_front_of, held_place}
 use Rattle.map_script.specs.Meant.{Meant, meant}
 use Rattle.map_script.specs.declared.held.Entry.{Entry}
 use Rattle.map_script.proofs.Hiding.{indexed_more}

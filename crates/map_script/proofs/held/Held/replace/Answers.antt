@@ -1,4 +1,4 @@
-use Rattle.std.proofs.Common.{◌≡◌, ◌∙◌, ℕ, List, [], None, Some, true, ap, arith, refl, sym}
+use Rattle.std.proofs.Common.{◌≡◌, ◌∙◌, ℕ, List, [], None, Some, ap, arith, refl, sym}
 use Rattle.std.specs.Prelude.{is_some}
 use Rattle.map_script.specs.Held.{newest_of}
 use Rattle.map_script.specs.Meant.{Meant, meant, meant_by, with_meaning}

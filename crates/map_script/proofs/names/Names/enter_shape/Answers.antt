@@ -1,6 +1,5 @@
-use Rattle.std.proofs.Common.{◌≡◌, ◌∙◌, ◌∷◌, ◌++◌, [], ap, ap₂, List, sym}
+use Rattle.std.proofs.Common.{◌∙◌, ◌∷◌, ◌++◌, [], ap, ap₂, List}
 use Rattle.map_script.specs.Frames.{layer_of, layers_in_front}
-use Rattle.map_script.specs.Layers.{Layer}
 use Rattle.map_script.specs.declared.frame.Frame.{Frame}
 use Rattle.map_script.proofs.Layering.{frames_more}
 use Rattle.map_script.proofs.Leaving.{scope_at}

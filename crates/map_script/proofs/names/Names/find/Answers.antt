@@ -1,4 +1,4 @@
-use Rattle.std.proofs.Common.{◌≡◌, ◌∙◌, [], ap, sym}
+use Rattle.std.proofs.Common.{◌∙◌, [], ap, sym}
 use Rattle.map_script.specs.Frames.{known_in, layers_in_front}
 use Rattle.map_script.specs.Layers.{layered}
 use Rattle.map_script.specs.Meant.{meant_by}

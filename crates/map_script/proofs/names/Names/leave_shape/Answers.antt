@@ -1,4 +1,4 @@
-use Rattle.std.proofs.Common.{◌≡◌, ◌∙◌, ◌++◌, ◌∷◌, ◌<◌, ◌≤◌, [], List, ap, arith, length, sym}
+use Rattle.std.proofs.Common.{◌∙◌, [], List, ap, arith}
 use Rattle.map_script.specs.Frames.{layer_of, layers_in_front}
 use Rattle.map_script.specs.Known.{scope_of}
 use Rattle.map_script.specs.declared.frame.Frame.{Frame}

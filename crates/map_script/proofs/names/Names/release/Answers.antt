@@ -1,6 +1,6 @@
-use Rattle.std.proofs.Common.{◌≡◌, ◌∙◌, ap, sym}
+use Rattle.std.proofs.Common.{◌∙◌, ap}
 use Rattle.map_script.specs.Known.{scope_of}
-use Rattle.map_script.specs.Layers.{Layer, layer_less}
+use Rattle.map_script.specs.Layers.{Layer}
 use Rattle.map_script.specs.Scopes.{Scope, held_as}
 use Rattle.map_script.proofs.names.Names.release.Goals as goal
 
