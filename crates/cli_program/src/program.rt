@@ -244,8 +244,8 @@ where
 /// Does what a request asks for, with standard input, output and error passed in, and returns the status: 0 if it was
 /// done; 3 if maps have findings, a level has a fault or was left, or a line of a script was refused; 1 if the request
 /// was refused, with the reason in a line on `faults`, and one more if a file can't be opened, made, read, written or
-/// synced, or the names that there are if it has none of the name. `dump` and `rebuild` also report on `faults` about the levels of a WAD. The writer is flushed after each
-/// turn of reading.
+/// synced, or has no map or level of the name. `dump` and `rebuild` also report on `faults` about the levels of a WAD.
+/// The writer is flushed after each turn of reading.
 pub fn perform<E, R, W, F>(
     rt: &E,
     request: &Request,

@@ -1,12 +1,12 @@
 -- What a script draws, line by line and turn by turn (docs/COMMANDS.md, "Scripts").
 use Rattle.std.specs.Prelude.{◌≡◌, ◌⊎◌, ℕ, zero, suc, ◌+◌, ◌<◌, ◌≤◌, Bool, List, [], ◌∷◌, ◌++◌, Option, Some, None, Result, Ok, Err, MatchOption, length}
-use Rattle.std.specs.Io.KnownBytes.{Keeps}
 use Rattle.map_tables.specs.Projects.{current_map}
 use Rattle.map_script.specs.Scopes.{first_scope}
 use Rattle.map_script.specs.Words.{text_words}
 use Rattle.run_script.specs.Blocks.{order_fault, with_places}
 use Rattle.run_script.specs.Defined.{Shape, shapes_in}
 use Rattle.run_script.specs.Lines.{DrawsLine, Sketch, sketch_of}
+use Rattle.run_script.specs.Orders.{IsOutOfOrder}
 use Rattle.run_script.specs.Turns.{EndsTurn, OpensBlock, Position, Turn, after_opening}
 use Rattle.map_script.specs.declared.error.DrawError.{DrawError}
 use Rattle.run_script.specs.declared.canvas.Canvas.{Ghosts}
@@ -40,8 +40,7 @@ DrawsNext facts verbose line lines old refusal new =
 
 -- where a line leads before these lines, if it opens a block
 abbrev pub opened_by : {S : Type 0} → Ghosts S → List Shape → ℕ × (ℕ × List ℕ)
-    → List (ℕ × (ℕ × List ℕ))
-    → Progress S → Option (Result Position DrawError)
+    → List (ℕ × (ℕ × List ℕ)) → Progress S → Option (Result Position DrawError)
 opened_by facts shapes l ls old =
     after_opening old.sketch.names (current_map (facts.maps_in old.sketch.canvas)) shapes l.0 ls
     old.turns (text_words l.1.1)
@@ -125,8 +124,7 @@ Refuses facts verbose shapes limit n old code new =
 
 -- all lines were drawn, and what waited was put
 pub record IsAllDrawn {S : Type 0} (facts : Ghosts S) (verbose : Bool) (shapes : List Shape)
-    (first : Progress S)
-    (limit : ℕ) (canvas : S) (written : Option (List ℕ)) : Type 0 where
+    (first : Progress S) (limit : ℕ) (canvas : S) (written : Option (List ℕ)) : Type 0 where
   pub count : ℕ
   pub last : Progress S
   pub within : count ≤ limit
@@ -138,8 +136,8 @@ pub record IsAllDrawn {S : Type 0} (facts : Ghosts S) (verbose : Bool) (shapes :
 -- The lines before one were drawn, and the one at the stop's place was refused with its code. With 30
 -- it may be the first of those that were to be put together.
 pub record IsStoppedAt {S : Type 0} (facts : Ghosts S) (verbose : Bool) (shapes : List Shape)
-    (first : Progress S)
-    (limit : ℕ) (stop : Stop) (canvas : S) (written : Option (List ℕ)) : Type 0 where
+    (first : Progress S) (limit : ℕ) (stop : Stop) (canvas : S) (written : Option (List ℕ))
+    : Type 0 where
   pub count : ℕ
   pub before : Progress S
   pub after : Progress S
@@ -152,8 +150,7 @@ pub record IsStoppedAt {S : Type 0} (facts : Ghosts S) (verbose : Bool) (shapes 
 -- this is the canvas after the lines that were drawn before memory ran out or the writer failed; what
 -- waited was put then, or is lost
 pub record IsCutOff {S : Type 0} (facts : Ghosts S) (verbose : Bool) (shapes : List Shape)
-    (first : Progress S)
-    (canvas : S) : Type 0 where
+    (first : Progress S) (canvas : S) : Type 0 where
   pub count : ℕ
   pub last : Progress S
   pub reached : ComesTo facts verbose shapes first count last
@@ -173,21 +170,11 @@ EndsFrom facts verbose shapes first limit (Ok (Some stop)) canvas written =
 EndsFrom facts verbose shapes first limit (Err error) canvas written =
     ((error ≡ OutOfMemory) ⊎ (error ≡ WriterFailed)) × IsCutOff facts verbose shapes first canvas
 
--- the blocks of a script are out of order at a place: it is refused there with 47, and nothing is
--- drawn
-pub record IsOutOfOrder {S : Type 0} (place : ℕ) (result : Result (Option Stop) ScriptError)
-    (canvas-old : S) (writer-old : Option (List ℕ)) (canvas-new : S)
-    (writer-new : Option (List ℕ)) : Type 0 where
-  pub refused : result ≡ Ok (Some (record { place = place; code = 47 }))
-  pub canvas : canvas-new ≡ canvas-old
-  pub written : Keeps writer-old writer-new
-
 -- how a call ended that should draw these lines
 abbrev pub IsScriptDrawn : {S : Type 0} → Ghosts S → Bool → List (ℕ × List ℕ)
     → Result (Option Stop) ScriptError → S → Option (List ℕ) → S → Option (List ℕ) → Type 0
 IsScriptDrawn facts verbose lines result canvas-old writer-old canvas-new writer-new =
     MatchOption (order_fault lines)
-    (EndsFrom facts verbose (shapes_in (with_places lines)) (at_first
-    canvas-old writer-old lines) (line_limit lines) result
-    canvas-new writer-new)
+    (EndsFrom facts verbose (shapes_in (with_places lines))
+    (at_first canvas-old writer-old lines) (line_limit lines) result canvas-new writer-new)
     (λ place. IsOutOfOrder place result canvas-old writer-old canvas-new writer-new)

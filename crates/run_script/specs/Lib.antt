@@ -10,6 +10,7 @@ pub mod Lines
 pub mod LossLaws
 pub mod Names
 pub mod Opened
+pub mod Orders
 pub mod Places
 pub mod PutLaws
 pub mod Refused

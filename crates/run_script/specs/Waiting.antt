@@ -36,6 +36,7 @@ abbrev pub maps_behind : {D : Type 0} → State D → Option GroupState → Proj
 maps_behind project None = project_of project.maps
 maps_behind project (Some group) = project_of group.maps
 
+-- the maps that a drawing has come to, with what waits
 abbrev pub drawn_maps : {D : Type 0} → Drawing D → ProjectMaps
 drawn_maps d = maps_behind d.project d.group
 

@@ -132,6 +132,14 @@ fn lost_from(first: usize) -> Stop
     Stop { place: first, code }
 }
 
+// What is told where a script draws more lines than it may.
+fn too_many_at(place: usize) -> Stop
+    ensures { result ≡ record { place = place; code = 48 } }
+{
+    let code = DrawError::TooManyLines.code();
+    Stop { place, code }
+}
+
 // Puts what waits from the line at `first` on, and returns how the drawing ended.
 fn finish<C: Canvas>(canvas: &mut C, ended: Option<Stop>, first: usize) -> Option<Stop>
     ensures { (C.Canvas.settles canvas.old canvas.new × (result ≡ ended))
@@ -207,10 +215,7 @@ fn draw_all<C: Canvas, W: Write>(
     }
     match place_at_hand(lines, &reading) {
         None => Ok(finish(canvas, None, first)),
-        Some(place) => {
-            let code = DrawError::TooManyLines.code();
-            Ok(finish(canvas, Some(Stop { place, code }), first))
-        }
+        Some(place) => Ok(finish(canvas, Some(too_many_at(place)), first)),
     }
 }
 

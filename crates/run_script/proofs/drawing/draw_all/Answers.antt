@@ -5,7 +5,7 @@ use Rattle.map_script.specs.Known.{scope_of}
 use Rattle.map_script.specs.Views.{seen}
 use Rattle.map_script.specs.declared.script.ScriptLine.{ScriptLine}
 use Rattle.run_script.specs.Blocks.{with_places}
-use Rattle.run_script.specs.Drawn.{IsStoppedAt, at_first, line_limit}
+use Rattle.run_script.specs.Drawn.{IsAtPlace, IsStoppedAt, at_first, line_limit}
 use Rattle.run_script.specs.declared.drawing.Stop.{Stop}
 use Rattle.run_script.specs.Places.{progress_of}
 use Rattle.run_script.specs.ShapePlaces.{shapes_among}
@@ -211,8 +211,8 @@ returns-clause-drawn g c =
       before = mid;
       after = mid;
       reached = c.loop-count.invariant.reached;
-      at_place = c.in-Some-place_at_hand.ensures.place;
-      refused = inr (omega (arith, limit, c.loop-count-test.false), c.code-code.ensures, refl);
+      at_place = subst (λ (p : ℕ). IsAtPlace mid.lines mid.turns p) (sym (ap (λ (s : Stop). s.place) c.too_many_at.ensures)) c.in-Some-place_at_hand.ensures.place;
+      refused = inr (omega (arith, limit, c.loop-count-test.false), ap (λ (s : Stop). s.code) c.too_many_at.ensures, refl);
       put = settled;
       has = refl;
     })
