@@ -16,7 +16,11 @@ returns-in-Err-clause-drawn g c = rw c.not_opened.ensures.disk (inl ((c.in-Err.r
 
 pub returns-clause-drawn : goal.returns-clause-drawn
 returns-clause-drawn g c =
-    inr (c.in-Ok.project, c.draw_onto-how.new.canvas, c.in-Ok.ensures.opened,
-    c.into_disk.ensures.disk ∙ ap (λ (s : State _). s.disk) c.into_project-project.ensures,
-    subst (λ (d : Drawing _). IsDrawnOnto (project_canvas g.D.Disk) c.args.script.is_verbose c.args.script.text.now c.draw_onto-how.result d c.draw_onto-how.new.canvas
-    (g.W.Write.contents c.args.writer.now) (g.W.Write.contents c.draw_onto-how.new.writer)) c.new-canvas.ensures.first c.draw_onto-how.ensures.drawn)
+    inr (
+      c.in-Ok.project,
+      c.draw_onto-how.new.canvas,
+      c.in-Ok.ensures.opened,
+      c.into_disk.ensures.disk ∙ ap (λ (s : State _). s.disk) c.into_project-project.ensures,
+      subst (λ (d : Drawing _). IsDrawnOnto (project_canvas g.D.Disk) c.args.script.is_verbose c.args.script.text.now c.draw_onto-how.result d c.draw_onto-how.new.canvas
+          (g.W.Write.contents c.args.writer.now) (g.W.Write.contents c.draw_onto-how.new.writer)) c.new-canvas.ensures.first c.draw_onto-how.ensures.drawn,
+    )
