@@ -28,6 +28,18 @@ const REFUSED: u8 = 1;
 // The status of arguments that are no request.
 const NO_REQUEST: u8 = 2;
 
+// How deep the stack may get, in bytes. The deepest was 1,268 KB, where a build follows a path of 1,024 nodes.
+const DEEPEST: usize = 1_400_000;
+
+// Touches the stack as deep as it may get, so that the system hands out its pages now, or ends the program before it has
+// done anything. Where memory ends later, an allocation is refused (31), and no call lacks a page. No compiler knows that
+// no byte of the array is written, so none leaves it out.
+#[inline(never)]
+fn touch_stack(rt: &HostRuntime) {
+    let pages = [0; DEEPEST];
+    let _ = rt.stderr().write(&pages[..0]);
+}
+
 // Reports lack of memory. If standard error can't be written, that is ignored.
 fn complain_of_memory(rt: &HostRuntime) {
     let _ = eprintln!(rt; "leveled: 31 Memory");
@@ -200,6 +212,7 @@ fn fill_closed_streams(rt: &HostRuntime) -> [io::Result<File>; 3] {
 fn run(rt: &HostRuntime) -> u8
     ensures { result ≤ 3 }
 {
+    touch_stack(rt);
     let _held = fill_closed_streams(rt);
     let read = match env::args(rt) {
         Ok(read) => read,
