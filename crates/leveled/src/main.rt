@@ -31,9 +31,9 @@ const NO_REQUEST: u8 = 2;
 // How deep the stack may get, in bytes. The deepest was 1,268 KB, where a build follows a path of 1,024 nodes.
 const DEEPEST: usize = 1_400_000;
 
-// Touches the stack as deep as it may get, so that the system hands out its pages now, or ends the program before it has
-// done anything. Where memory ends later, an allocation is refused (31), and no call lacks a page. No compiler knows
-// that no byte of the array is written, so none leaves it out.
+// Touches the stack as deep as it may get, so that the system hands out its pages now, or ends the program before it
+// has done anything. Where memory ends later, an allocation is refused (31), and no call lacks a page. No compiler
+// knows that no byte of the array is written, so none leaves it out.
 #[inline(never)]
 fn touch_stack(rt: &HostRuntime) {
     let pages = [0; DEEPEST];
