@@ -6,5 +6,5 @@ use Rattle.run_script.proofs.blocks.block_len.Given as goal
 -- the lines so far stand in the block
 abbrev pub invariant-loop-i : goal.invariant-loop-i
 invariant-loop-i l =
-    (l.from + block_len 0 (lines_between (with_places (map seen l.lines)) l.from l.until)
-    ≡ l.i + block_len l.depth (lines_between (with_places (map seen l.lines)) l.i l.until)) × (l.depth ≤ l.i)
+    (l.from + block_len 0 (lines_between (with_places l.lines) l.from l.until)
+    ≡ l.i + block_len l.depth (lines_between (with_places l.lines) l.i l.until)) × (l.depth ≤ l.i)

@@ -8,7 +8,7 @@ returns-in-Err-clause-drawn g c = (
   inl refl,
   record {
     count = 0;
-    last = at_first c.args.canvas.now (g.W.Write.contents c.args.writer.now) (map seen c.args.lines.now);
+    last = at_first c.args.canvas.now (g.W.Write.contents c.args.writer.now) c.args.lines.now;
     reached = refl;
     left = c.args.canvas.now;
     settled = inl refl;

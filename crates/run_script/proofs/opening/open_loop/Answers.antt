@@ -14,7 +14,7 @@ use Rattle.run_script.proofs.opening.open_loop.Goals as goal
 
 pub returns-in-Ok-open_first-clause-opened : goal.returns-in-Ok-open_first-clause-opened
 returns-in-Ok-open_first-clause-opened g c =
-    let all : List (ℕ × (ℕ × List ℕ)) = with_places (map seen c.args.lines.now) in
+    let all : List (ℕ × (ℕ × List ℕ)) = with_places c.args.lines.now in
     let r = c.args.reading.now in
     let s = c.open_first.new.reading in
     let words = text_words c.args.words.now in
