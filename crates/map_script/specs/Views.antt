@@ -21,9 +21,9 @@ lines_from texts from (e ∷ es) =
     (e.number, text_between texts from e.end) ∷ lines_from texts e.end es
 
 -- the first of these begins at a place, none ends before it begins, and the last ends at another
-abbrev pub AreEnds : ℕ → List LineEnd → ℕ → Type 0
-AreEnds from [] until = from ≡ until
-AreEnds from (e ∷ es) until = (from ≤ e.end) × AreEnds e.end es until
+abbrev pub AreLineEnds : ℕ → List LineEnd → ℕ → Type 0
+AreLineEnds from [] until = from ≡ until
+AreLineEnds from (e ∷ es) until = (from ≤ e.end) × AreLineEnds e.end es until
 
 -- where one of these begins: where the one before it ends, or at a place
 abbrev pub begin_of : ℕ → List LineEnd → ℕ → ℕ

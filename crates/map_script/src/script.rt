@@ -4,7 +4,7 @@ ghost use Rattle.std.specs.List.{slice_split};
 ghost use Rattle.std.specs.Str.Lines.{strip_carriage_return};
 ghost use Rattle.map_script.specs.declared.error.DrawError.TheVariants.{OutOfMemory};
 ghost use Rattle.map_script.specs.Scripts.{begins_comment, cleaned, is_line_end, script_lines, without_mark};
-ghost use Rattle.map_script.specs.Views.{AreEnds, begin_of, len_behind, lines_behind, lines_from, seen, text_between, with_script_line};
+ghost use Rattle.map_script.specs.Views.{AreLineEnds, begin_of, len_behind, lines_behind, lines_from, seen, text_between, with_script_line};
 ghost use Rattle.map_script.specs.Words.{is_some_text};
 
 use crate::error::DrawError;
@@ -37,13 +37,13 @@ pub struct ScriptLines {
 
 impl Model for ScriptLines {
     ghost use Rattle.std.specs.Prelude.{ℕ, List, length};
-    ghost use Rattle.map_script.specs.Views.{AreEnds, lines_from};
+    ghost use Rattle.map_script.specs.Views.{AreLineEnds, lines_from};
 
     ghost Value = { List (ℕ × List ℕ) };
 
     ghost view = { λ s. lines_from s.texts.items 0 s.ends.items };
 
-    ghost invariant = { λ s. AreEnds 0 s.ends.items (length s.texts.items) };
+    ghost invariant = { λ s. AreLineEnds 0 s.ends.items (length s.texts.items) };
 }
 
 // Where the text of a line begins: where the one before it ends.
@@ -70,7 +70,7 @@ fn text_between(text: &[u8], from: usize, until: usize) -> &[u8]
 // The line at a place among lines whose texts end so.
 fn line_in<'a>(texts: &'a [u8], ends: &[LineEnd], place: usize) -> ScriptLine<'a>
     requires place { place < length ends.now }
-    requires ends { AreEnds 0 ends.now (length texts.now) }
+    requires ends { AreLineEnds 0 ends.now (length texts.now) }
     ensures { slice_get (lines_from texts.now 0 ends.now) place ≡ Some (seen result) }
 {
     let line = ends[place];
@@ -244,11 +244,11 @@ fn add_line(
     number: usize,
     text: &[u8],
 ) -> Result<(), DrawError>
-    requires { AreEnds 0 ends.old.items (length texts.old.items) }
+    requires { AreLineEnds 0 ends.old.items (length texts.old.items) }
     ensures ok { IfOk result
         (λ _. lines_from texts.new.items 0 ends.new.items
         ≡ lines_from texts.old.items 0 ends.old.items ++ (number, text.now) ∷ []) }
-    ensures ends { IfOk result (λ _. AreEnds 0 ends.new.items (length texts.new.items)) }
+    ensures ends { IfOk result (λ _. AreLineEnds 0 ends.new.items (length texts.new.items)) }
     ensures memory { IsOkUnless result OutOfMemory }
 {
     texts.extend_from_slice(text)?;
@@ -265,11 +265,11 @@ fn put_line(
     number: usize,
     line: &[u8],
 ) -> Result<(), DrawError>
-    requires { AreEnds 0 ends.old.items (length texts.old.items) }
+    requires { AreLineEnds 0 ends.old.items (length texts.old.items) }
     ensures ok { IfOk result
         (λ _. lines_from texts.new.items 0 ends.new.items
         ≡ with_script_line (lines_from texts.old.items 0 ends.old.items) number line.now) }
-    ensures ends { IfOk result (λ _. AreEnds 0 ends.new.items (length texts.new.items)) }
+    ensures ends { IfOk result (λ _. AreLineEnds 0 ends.new.items (length texts.new.items)) }
     ensures memory { IsOkUnless result OutOfMemory }
 {
     let text = clean(alloc, line)?;
