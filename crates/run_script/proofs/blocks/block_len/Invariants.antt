@@ -1,5 +1,4 @@
-use Rattle.std.proofs.Common.{◌≡◌, ◌+◌, ◌≤◌, map}
-use Rattle.map_script.specs.Views.{seen}
+use Rattle.std.proofs.Common.{◌≡◌, ◌+◌, ◌≤◌}
 use Rattle.run_script.specs.Blocks.{lines_between, block_len, with_places}
 use Rattle.run_script.proofs.blocks.block_len.Given as goal
 

@@ -1,5 +1,4 @@
-use Rattle.std.proofs.Common.{◌≡◌, ◌+◌, ◌<◌, ◌≤◌, length, map}
-use Rattle.map_script.specs.Views.{seen}
+use Rattle.std.proofs.Common.{◌≡◌, ◌+◌, ◌<◌, ◌≤◌, length}
 use Rattle.run_script.specs.Blocks.{lines_between, order_fault, fault_within, with_places}
 use Rattle.run_script.proofs.blocks.order_fault.Given as goal
 

@@ -1,5 +1,4 @@
-use Rattle.std.proofs.Common.{◌≡◌, ◌∙◌, ◌+◌, ◌≤◌, List, ℕ, ap, arith, drop, length, map, refl, rules, sym}
-use Rattle.map_script.specs.Views.{seen}
+use Rattle.std.proofs.Common.{◌≡◌, ◌∙◌, ◌+◌, ◌≤◌, List, ℕ, ap, arith, drop, length, refl, rules, sym}
 use Rattle.map_script.specs.Words.{first_word, text_words}
 use Rattle.run_script.specs.Blocks.{block_len, block_lines, lines_between, with_places}
 use Rattle.run_script.proofs.PlacedLines.{body_is}

@@ -1,4 +1,4 @@
-use Rattle.std.proofs.Common.{◌≡◌, ◌∙◌, ◌+◌, ◌<◌, arith, ◌++◌, ◌∷◌, [], List, None, Some, ℕ, ap, length, map, refl, rules, subst, sym}
+use Rattle.std.proofs.Common.{◌≡◌, ◌∙◌, ◌+◌, ◌<◌, arith, ◌++◌, ◌∷◌, [], List, None, Some, ℕ, ap, length, refl, rules, subst, sym}
 use Rattle.std.proofs.lemmas.List.Elements.{All-nil, All-push}
 use Rattle.map_script.specs.Defines.{define_words}
 use Rattle.map_script.specs.Views.{seen}

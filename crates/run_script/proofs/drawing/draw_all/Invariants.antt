@@ -1,6 +1,5 @@
-use Rattle.std.proofs.Common.{ℕ, List, length, map}
+use Rattle.std.proofs.Common.{ℕ, List, length}
 use Rattle.map_script.specs.Known.{scope_of}
-use Rattle.map_script.specs.Views.{seen}
 use Rattle.run_script.specs.Blocks.{with_places}
 use Rattle.run_script.specs.Drawn.{ComesTo, at_first, line_limit}
 use Rattle.run_script.specs.Places.{IsWithinLines, progress_of}

@@ -1,7 +1,7 @@
-use Rattle.std.proofs.Common.{◌≡◌, ◌∙◌, ◌<◌, ◌+◌, drop, List, None, ℕ, Some, ap, arith, length, map, refl, sym}
+use Rattle.std.proofs.Common.{◌≡◌, ◌∙◌, ◌<◌, ◌+◌, List, None, ℕ, Some, ap, arith, length, refl, sym}
 use Rattle.map_tables.specs.Projects.{current_map}
 use Rattle.map_script.specs.Ats.{at_words}
-use Rattle.map_script.specs.Defines.{call_words, define_words}
+use Rattle.map_script.specs.Defines.{define_words}
 use Rattle.map_script.specs.Known.{scope_of}
 use Rattle.map_script.specs.Loops.{loop_words}
 use Rattle.map_script.specs.Views.{seen}
@@ -11,7 +11,6 @@ use Rattle.run_script.specs.Defined.{shape_called}
 use Rattle.run_script.specs.Lines.{sketch_of}
 use Rattle.run_script.specs.Places.{turns_of}
 use Rattle.run_script.specs.ShapePlaces.{shape_among, shapes_among}
-use Rattle.run_script.specs.Turns.{after_drawing}
 use Rattle.run_script.proofs.Progressing.{any_ok, by_at, by_define, by_loop, by_shape, ended_next, met_block}
 use Rattle.run_script.proofs.drawing.draw_next.Goals as goal
 

@@ -1,5 +1,4 @@
-use Rattle.std.proofs.Common.{inl, map, refl}
-use Rattle.map_script.specs.Views.{seen}
+use Rattle.std.proofs.Common.{inl, refl}
 use Rattle.run_script.specs.Drawn.{at_first}
 use Rattle.run_script.proofs.drawing.draw_shaped.Goals as goal
 

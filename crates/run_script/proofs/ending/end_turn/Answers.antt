@@ -1,9 +1,8 @@
-use Rattle.std.proofs.Common.{◌≡◌, ◌∙◌, ◌+◌, ◌++◌, ◌∷◌, [], List, ℕ, Option, None, Some, ap, arith, length, map, refl, sym, subst}
+use Rattle.std.proofs.Common.{◌≡◌, ◌∙◌, ◌+◌, ◌++◌, ◌∷◌, [], List, ℕ, Option, None, Some, ap, arith, length, refl, sym, subst}
 use Rattle.std.proofs.lemmas.List.Elements.{All-pop}
 use Rattle.map_script.specs.Errors.{code_of}
 use Rattle.map_script.specs.Known.{scope_of}
 use Rattle.map_script.specs.Scopes.{Scope}
-use Rattle.map_script.specs.Views.{seen}
 use Rattle.run_script.specs.Blocks.{lines_between, with_places}
 use Rattle.run_script.specs.Turns.{EndsTurn}
 use Rattle.run_script.specs.Places.{Enters, IsBlockWithin, position_of, turns_of}

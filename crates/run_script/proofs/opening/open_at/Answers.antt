@@ -1,7 +1,6 @@
-use Rattle.std.proofs.Common.{◌≡◌, ◌∙◌, ◌+◌, ◌≤◌, inl, List, ℕ, None, Ok, ap, arith, map, refl, sym}
+use Rattle.std.proofs.Common.{◌≡◌, ◌∙◌, ◌+◌, ◌≤◌, inl, List, ℕ, None, Ok, ap, arith, refl, sym}
 use Rattle.map_script.specs.Ats.{at_placing}
 use Rattle.map_script.specs.Known.{scope_of}
-use Rattle.map_script.specs.Views.{seen}
 use Rattle.map_script.specs.Words.{text_words}
 use Rattle.map_tables.specs.Projects.{current_map}
 use Rattle.map_tables.specs.Tables.{Tables}
