@@ -5,7 +5,7 @@ use Rattle.std.specs.Prelude.{◌==◌, ◌*◌, nat_le, nat_lt}
 use Rattle.wad_file.specs.Directory.{entry}
 use Rattle.wad_file.specs.declared.entry.Entry.{Entry}
 use Rattle.std.proofs.lemmas.Bool.Decides.{nat_tests}
-use Rattle.wad_levels.specs.Graphics.{are_all_inside, are_flats_open, are_textures, is_crowded, is_flat, graphics_refusal, is_texture_inside, texture_at, texture_count}
+use Rattle.wad_levels.specs.Graphics.{are_all_inside, are_flats_open, are_textures, is_overfull, is_flat, graphics_refusal, is_texture_inside, texture_at, texture_count}
 use Rattle.wad_levels.specs.Listing.{listing_refusal}
 use Rattle.wad_levels.specs.declared.error.ReadError.{ReadError}
 use Rattle.wad_levels.proofs.RunLemmas.{passing_more}
@@ -65,7 +65,7 @@ middle false b c all = absurd (cc)
 parts : (lump : List ℕ) → are_textures lump ≡ true → (length lump == 0) ≡ false → are_all_inside lump ≡ true
 parts lump are some =
     let counted = nat_le 4 (length lump) && nat_le (4 * texture_count lump + 4) (length lump) in
-    let few = not (is_crowded lump) in
+    let few = not (is_overfull lump) in
     middle counted (are_all_inside lump) few (or_right (length lump == 0) (counted && (are_all_inside lump && few)) are some)
 
 -- each texture stands in the lump

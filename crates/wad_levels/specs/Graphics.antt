@@ -74,17 +74,17 @@ abbrev pub of_all : List ℕ → (ℕ → ℕ) → ℕ
 of_all lump count_of = sum_by count_of (range_with_len 0 (texture_count lump))
 
 -- a 128th of all textures' columns, or a quarter of all their patches, is more than the lump has bytes
-abbrev pub is_crowded : List ℕ → Bool
-is_crowded lump =
+abbrev pub is_overfull : List ℕ → Bool
+is_overfull lump =
     nat_lt (length lump) (of_all lump (column_count lump) / 128)
     || nat_lt (length lump) (of_all lump (nth_patch_count lump) / 4)
 
--- the lump is empty, or a list of textures that isn't crowded: their count, the offset of each, and at each offset one
+-- the lump is empty, or a list of textures that isn't overfull: their count, the offset of each, and at each offset one
 abbrev pub are_textures : List ℕ → Bool
 are_textures lump =
     (length lump == 0)
     || (nat_le 4 (length lump) && nat_le (4 * texture_count lump + 4) (length lump)
-    && (are_all_inside lump && not (is_crowded lump)))
+    && (are_all_inside lump && not (is_overfull lump)))
 
 -- the texture that stands at a place: its name in capitals, its height, and whether more than one patch covers some
 -- column of it

@@ -1,6 +1,6 @@
 //! Which lumps are lists of textures.
 ghost use Rattle.std.specs.Prelude.{◌≡◌, ◌+◌, ◌*◌, ◌≤◌, ◌<◌, IsTrue, length};
-ghost use Rattle.wad_levels.specs.Graphics.{are_all_inside, are_textures, column_count, is_crowded, is_texture_inside, nth_patch_count, of_all, texture_at, texture_count};
+ghost use Rattle.wad_levels.specs.Graphics.{are_all_inside, are_textures, column_count, is_overfull, is_texture_inside, nth_patch_count, of_all, texture_at, texture_count};
 
 use crate::patches::{count_at, patch_count};
 use wad_file::long_at;
@@ -73,16 +73,16 @@ fn all_patches(lump: &[u8]) -> u64
 
 // Whether the textures, which stand inside the lump, have together more than 128 columns, or more than 4 patches, for
 // each of its bytes. To read them takes time in proportion to both.
-fn is_crowded(lump: &[u8]) -> bool
+fn is_overfull(lump: &[u8]) -> bool
     requires inside { 4 * texture_count lump.now + 4 ≤ length lump.now }
     requires textures { IsTrue (are_all_inside lump.now) }
-    ensures { result ≡ is_crowded lump.now }
+    ensures { result ≡ is_overfull lump.now }
 {
     let len = lump.len() as u64;
     all_columns(lump) / 128 > len || all_patches(lump) / 4 > len
 }
 
-/// Whether the lump is empty, or a whole list of textures that isn't crowded.
+/// Whether the lump is empty, or a whole list of textures that isn't overfull.
 pub(crate) fn are_textures(lump: &[u8]) -> bool
     ensures { result ≡ are_textures lump.now }
 {
@@ -91,5 +91,5 @@ pub(crate) fn are_textures(lump: &[u8]) -> bool
     }
     4 * u64::from(texture_count(lump)) + 4 <= lump.len() as u64
         && are_all_inside(lump)
-        && !is_crowded(lump)
+        && !is_overfull(lump)
 }
