@@ -5,7 +5,8 @@ ghost use Rattle.map_play.specs.Bodies.{is_body_of, body_of};
 use lump_records::Thing;
 
 /// Things of the types from `first` to `last`, which are solid: the radius of their square and their height, in map
-/// units, whether they move of themselves, as players and monsters do, and how far a monster steps at a time, in map units.
+/// units, whether they move of themselves, as players and monsters do, and how far a monster steps at a time, in map
+/// units.
 #[derive(Clone, Copy)]
 pub(crate) struct Body {
     pub first: i16,
