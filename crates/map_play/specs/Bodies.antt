@@ -1,6 +1,6 @@
 -- How wide and high the solid things of Doom are, and which of them move, as the table of things of the engine has it
--- (`mobjinfo`, info.c). A solid thing has MF_SOLID there, and one that moves has a speed, or is a player. The speed of a
--- monster is how far it steps at a time.
+-- (`mobjinfo`, info.c). A solid thing has MF_SOLID there, and one that moves has a speed, or is a player. The speed of
+-- a monster is how far it steps at a time.
 use Rattle.std.specs.Prelude.{Bool, true, false, ◌&&◌, Option, List, [], ◌∷◌, find, pos, int_le}
 use Rattle.lump_records.specs.declared.records.Thing.{Thing}
 use Rattle.map_play.specs.declared.bodies.Body.{Body}
