@@ -1,7 +1,7 @@
 //! A WAD's flats and textures.
-ghost use Rattle.std.specs.Prelude.{◌≡◌, ◌+◌, ◌*◌, ◌≤◌, ◌<◌, ◌++◌, true, length, IfOk, IsOkUnless, IsTrue, MatchResult, None, OnOk};
+ghost use Rattle.std.specs.Prelude.{◌≡◌, ◌+◌, ◌≤◌, ◌<◌, ◌++◌, true, length, IfOk, IsOkUnless, IsTrue, MatchResult, None, OnOk};
 ghost use Rattle.wad_file.specs.Directory.{lump_count};
-ghost use Rattle.wad_levels.specs.Graphics.{RefusesGraphics, are_all_inside, are_flats_open, are_textures, flat_names, graphics, graphics_refusal, graphics_view, is_texture_inside, texture_count, texture_from, textures_of};
+ghost use Rattle.wad_levels.specs.Graphics.{RefusesGraphics, are_flats_open, are_textures, flat_names, graphics, graphics_refusal, graphics_view, texture_from, textures_of};
 ghost use Rattle.wad_levels.specs.Patches.{patch_widths};
 
 use crate::error::ReadError;
