@@ -13,5 +13,6 @@ pub mod Games
 pub mod Walls
 pub mod Crowds
 pub mod Points
+pub mod Steps
 pub mod Stuck
 pub mod Game

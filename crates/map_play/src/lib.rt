@@ -15,6 +15,7 @@ mod neighbours;
 mod scrolls;
 mod sided;
 mod specials;
+mod steps;
 mod stuck;
 mod tags;
 mod teleports;

@@ -107,6 +107,16 @@ const REFUSED: &[(&[u8], u16)] = &[
     (b"PWAD\0\0\0\0\x0c\0\0", 70),
 ];
 
+// How many textures, all in the same bytes, how many columns and patches each has, and whether they are read: at each
+// limit, and one texture more or eight columns more. The lump of the first has 30 bytes, that of the third 710.
+const CROWDED: &[(u16, u16, u16, bool)] = &[
+    (1, 3967, 0, true),
+    (1, 3968, 0, false),
+    (71, 8, 40, true),
+    (72, 8, 40, false),
+    (0, 0, 40, true),
+];
+
 // Appends the names, each followed by a space.
 fn put(names: &[Name8], text: &mut Vec<u8>) -> Result<(), Fail> {
     for name in names {
@@ -157,6 +167,38 @@ fn refuses_bytes_without_names(rt: HostRuntime) -> Result<(), Fail> {
     for &(wad, code) in REFUSED {
         let refused = graphics_in(rt.alloc(), wad).err().map(|error| error.code());
         same(&rt, &refused, &Some(code));
+    }
+    Ok(())
+}
+
+// A list of so many textures that stand in the same bytes, with so many columns and patches each.
+fn texture_list(alloc: Global, count: u16, columns: u16, patches: u16) -> Result<Vec<u8>, Fail> {
+    let count = u32::from(count);
+    let mut lump = Vec::new(alloc);
+    lump.extend_from_slice(&count.to_le_bytes())?;
+    for _ in 0..count {
+        lump.extend_from_slice(&(4 * count + 4).to_le_bytes())?;
+    }
+    lump.extend_from_slice(b"GRATE\0\0\0\0\0\0\0")?;
+    lump.extend_from_slice(&columns.to_le_bytes())?;
+    lump.extend_from_slice(b"\x48\0\0\0\0\0")?;
+    lump.extend_from_slice(&patches.to_le_bytes())?;
+    for _ in 0..patches {
+        lump.extend_from_slice(&[0; 10])?;
+    }
+    Ok(lump)
+}
+
+#[test]
+fn refuses_crowded_lists_of_textures(rt: HostRuntime) -> Result<(), Fail> {
+    for &(count, columns, patches, is_read) in CROWDED {
+        let lump = texture_list(rt.alloc(), count, columns, patches)?;
+        let wad = wad_of(rt.alloc(), &[(b"TEXTURE2", &lump)])?;
+        let refused = graphics_in(rt.alloc(), &wad)
+            .err()
+            .map(|error| error.code());
+        let wanted = if is_read { None } else { Some(76) };
+        same(&rt, &refused, &wanted);
     }
     Ok(())
 }

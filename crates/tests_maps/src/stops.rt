@@ -223,7 +223,8 @@ const EXIT: &[u8] = b"set-line 0 0 1 1 11 0 0 -";
 const BEGUN: [&[u8]; 3] = [HALL, START, EXIT];
 
 // A further thing in the hall, and the warnings: players, 16 wide to each side, at walls and in a corner; an imp, 20
-// wide; a spider mastermind, 128 wide; a lamp and a barrel, which don't move; an imp in no game.
+// wide, and a spider mastermind, 128 wide, each just a step away from a free place, of 8 and of 12, and one further; a
+// lamp and a barrel, which don't move; an imp in no game.
 #[rattlefmt::skip]
 const AT_WALLS: &[(&[u8], &str)] = &[
     (b"thing 16 256 90 2 7", ""),
@@ -231,10 +232,10 @@ const AT_WALLS: &[(&[u8], &str)] = &[
     (b"thing 496 496 90 2 7", ""),
     (b"thing 496 497 90 2 7", "thing-stuck 1 at (496,497)\n"),
     (b"thing 256 500 90 11 7", "few-deathmatch-starts 1\nthing-stuck 1 at (256,500)\n"),
-    (b"thing 492 256 90 3001 7", ""),
-    (b"thing 493 256 90 3001 7", "thing-stuck 1 at (493,256)\n"),
-    (b"thing 384 256 90 7 7", ""),
-    (b"thing 385 256 90 7 7", "thing-stuck 1 at (385,256)\n"),
+    (b"thing 500 256 90 3001 7", ""),
+    (b"thing 501 256 90 3001 7", "thing-stuck 1 at (501,256)\n"),
+    (b"thing 396 256 90 7 7", ""),
+    (b"thing 397 256 90 7 7", "thing-stuck 1 at (397,256)\n"),
     (b"thing 510 256 90 2028 7", ""),
     (b"thing 256 510 90 2035 7", ""),
     (b"thing 500 256 90 3001 0", ""),
@@ -246,9 +247,12 @@ const AT_WALLS: &[(&[u8], &str)] = &[
 #[rattlefmt::skip]
 const AT_THE_START: &[(&[u8], &str)] = &[
     (b"thing 100 64 90 3001 7", ""),
-    (b"thing 99 64 90 3001 7", "thing-stuck 0 at (64,64)\nthing-stuck 1 at (99,64)\n"),
+    (b"thing 99 64 90 3001 7", "thing-stuck 0 at (64,64)\n"),
+    (b"thing 92 64 90 3001 7", "thing-stuck 0 at (64,64)\n"),
+    (b"thing 91 64 90 3001 7", "thing-stuck 0 at (64,64)\nthing-stuck 1 at (91,64)\n"),
     (b"thing 99 100 90 3001 7", ""),
-    (b"thing 99 99 90 3001 7", "thing-stuck 0 at (64,64)\nthing-stuck 1 at (99,99)\n"),
+    (b"thing 99 99 90 3001 7", "thing-stuck 0 at (64,64)\n"),
+    (b"thing 91 91 90 3001 7", "thing-stuck 0 at (64,64)\nthing-stuck 1 at (91,91)\n"),
     (b"thing 96 64 90 2028 7", ""),
     (b"thing 95 64 90 2028 7", "thing-stuck 0 at (64,64)\n"),
     (b"thing 64 90 90 2035 7", ""),
@@ -262,17 +266,18 @@ const AT_THE_START: &[(&[u8], &str)] = &[
     (b"thing 64 64 90 11 7", "few-deathmatch-starts 1\n"),
 ];
 
-// Two further things in the hall, and the warnings: an imp beside the widest thing, to the east and to the north; an
+// Two further things in the hall, and the warnings: an imp beside the widest thing, to the east and to the north, at a
+// place from which only a step of that thing, or none, leads away; an
 // imp and a demon at one place, with no skill in common, and with one; an imp at a start, which stands in each skill;
 // one at a start of deathmatches.
 #[rattlefmt::skip]
 const IN_PAIRS: &[(&[u8], &[u8], &str)] = &[
     (b"thing 256 256 90 7 7", b"thing 404 256 90 3001 7", ""),
-    (b"thing 256 256 90 7 7", b"thing 403 256 90 3001 7",
-        "thing-stuck 1 at (256,256)\nthing-stuck 2 at (403,256)\n"),
+    (b"thing 256 256 90 7 7", b"thing 395 256 90 3001 7", "thing-stuck 2 at (395,256)\n"),
     (b"thing 256 256 90 7 7", b"thing 256 404 90 3001 7", ""),
-    (b"thing 256 256 90 7 7", b"thing 256 403 90 3001 7",
-        "thing-stuck 1 at (256,256)\nthing-stuck 2 at (256,403)\n"),
+    (b"thing 256 256 90 7 7", b"thing 256 395 90 3001 7", "thing-stuck 2 at (256,395)\n"),
+    (b"thing 256 256 90 7 7", b"thing 256 391 90 3001 7",
+        "thing-stuck 1 at (256,256)\nthing-stuck 2 at (256,391)\n"),
     (b"thing 256 256 90 3001 1", b"thing 256 256 90 3002 6", ""),
     (b"thing 256 256 90 3001 3", b"thing 256 256 90 3002 6",
         "thing-stuck 1 at (256,256)\nthing-stuck 2 at (256,256)\n"),

@@ -1,16 +1,17 @@
 -- Numbers that all pass a test, one more at a time.
-use Rattle.std.proofs.Common.{◌≡◌, ◌∙◌, sym, ap, refl, cond, ℕ, Bool, true, false, ◌&&◌, ◌||◌, List, [], ◌∷◌, ◌++◌, ◌+◌, ◌<◌, ◌≤◌, length, filter, map, zero-add, arith, Some}
+use Rattle.std.proofs.Common.{◌≡◌, ◌∙◌, sym, ap, refl, cond, ℕ, Bool, true, false, ◌&&◌, ◌||◌, List, [], ◌∷◌, ◌++◌, ◌+◌, ◌<◌, ◌≤◌, length, filter, map, not, sum_by, zero-add, arith, Some}
 use Rattle.std.specs.List.{list_all, range_with_len}
 use Rattle.std.specs.Prelude.{◌==◌, ◌*◌, nat_le, nat_lt}
 use Rattle.wad_file.specs.Directory.{entry}
 use Rattle.wad_file.specs.declared.entry.Entry.{Entry}
 use Rattle.std.proofs.lemmas.Bool.Decides.{nat_tests}
-use Rattle.wad_levels.specs.Graphics.{are_flats_open, are_textures, is_flat, graphics_refusal, is_texture_inside, texture_at, texture_count}
+use Rattle.wad_levels.specs.Graphics.{are_all_inside, are_flats_open, are_textures, is_overfull, is_flat, graphics_refusal, is_texture_inside, texture_at, texture_count}
 use Rattle.wad_levels.specs.Listing.{listing_refusal}
 use Rattle.wad_levels.specs.declared.error.ReadError.{ReadError}
 use Rattle.wad_levels.proofs.RunLemmas.{passing_more}
 use Rattle.std.proofs.lemmas.List.{map-append, map-id, append_assoc}
 use Rattle.std.proofs.lemmas.List.Folds.{list_all-append, list_all_at}
+use Rattle.std.proofs.lemmas.List.Sums.{sum_by_push}
 use Rattle.std.proofs.lemmas.List.FromFn.{get_or-range_with_len, length-range_with_len, map-range_with_len_more}
 
 -- what one number more adds to the list of those that pass
@@ -55,25 +56,28 @@ or_right : (a b : Bool) → (a || b) ≡ true → a ≡ false → b ≡ true
 or_right false b or not-a = or
 or_right true b or not-a = absurd (cc)
 
-last_two : (a b c : Bool) → ((a && b) && c) ≡ true → (b ≡ true) × (c ≡ true)
-last_two true true c all = (refl, all)
-last_two true false c all = absurd (cc)
-last_two false b c all = absurd (cc)
+middle : (a b c : Bool) → (a && (b && c)) ≡ true → b ≡ true
+middle true true c all = refl
+middle true false c all = absurd (cc)
+middle false b c all = absurd (cc)
 
--- what a list of textures promises that isn't empty: its offsets stand in the lump, and each name
-parts : (lump : List ℕ) → are_textures lump ≡ true → (length lump == 0) ≡ false
-    → (nat_le (4 * texture_count lump + 4) (length lump) ≡ true) × (list_all (is_texture_inside lump) (range_with_len 0 (texture_count lump)) ≡ true)
+-- what a list of textures promises that isn't empty: each stands in the lump
+parts : (lump : List ℕ) → are_textures lump ≡ true → (length lump == 0) ≡ false → are_all_inside lump ≡ true
 parts lump are some =
-    last_two (nat_le 4 (length lump)) (nat_le (4 * texture_count lump + 4) (length lump)) (list_all (is_texture_inside lump) (range_with_len 0 (texture_count lump)))
-    (or_right (length lump == 0)
-    ((nat_le 4 (length lump) && nat_le (4 * texture_count lump + 4) (length lump)) && list_all (is_texture_inside lump) (range_with_len 0 (texture_count lump))) are some)
+    let counted = nat_le 4 (length lump) && nat_le (4 * texture_count lump + 4) (length lump) in
+    let few = not (is_overfull lump) in
+    middle counted (are_all_inside lump) few (or_right (length lump == 0) (counted && (are_all_inside lump && few)) are some)
 
 -- each texture stands in the lump
 pub texture_stands : (lump : List ℕ) (n : ℕ) → are_textures lump ≡ true → (length lump == 0) ≡ false → n < texture_count lump → texture_at lump n + 22 ≤ length lump
 texture_stands lump n are some among =
     let inside : nat_le (texture_at lump n + 22) (length lump) ≡ true =
-    each_passes (is_texture_inside lump) (texture_count lump) n (parts lump are some).1 among in
+    each_passes (is_texture_inside lump) (texture_count lump) n (parts lump are some) among in
     grind (arith, nat_tests)
+
+-- what one number more has, the numbers have more together
+pub of_more : (f : ℕ → ℕ) (n : ℕ) → sum_by f (range_with_len 0 (n + 1)) ≡ sum_by f (range_with_len 0 n) + f n
+of_more f n = ap (sum_by f) (range_more n) ∙ sum_by_push f (range_with_len 0 n) n
 
 -- whether the k-th entry is of a flat, by what is known of those before it
 pub flat_at : (wad : List ℕ) (k : ℕ) (before : Bool) (e : Entry) → before ≡ are_flats_open wad k → e ≡ entry wad k → (size : Bool) → nat_lt 0 e.size ≡ size

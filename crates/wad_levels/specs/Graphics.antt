@@ -1,5 +1,5 @@
 -- A WAD's flats and textures (docs/FORMAT.md, "Flats and textures").
-use Rattle.std.specs.Prelude.{◌≡◌, ℕ, ℤ, zero, suc, ◌+◌, ◌*◌, Bool, false, not, ◌&&◌, ◌||◌, ◌==◌, nat_lt, nat_le, List, [], ◌∷◌, ◌++◌, length, map, filter, Option, Some, codes}
+use Rattle.std.specs.Prelude.{◌≡◌, ℕ, ℤ, zero, suc, ◌+◌, ◌*◌, ◌/◌, Bool, false, not, ◌&&◌, ◌||◌, ◌==◌, nat_lt, nat_le, List, [], ◌∷◌, ◌++◌, length, map, filter, sum_by, Option, Some, codes}
 use Rattle.std.specs.List.{list_all, range_with_len}
 use Rattle.std.specs.Option.{option_or}
 use Rattle.lump_records.specs.Fields.{signed_at}
@@ -11,7 +11,7 @@ use Rattle.wad_levels.specs.declared.error.ReadError.{ReadError}
 use Rattle.wad_levels.specs.declared.error.ReadError.TheVariants.{LumpOutside, TextureLump, OutOfMemory}
 use Rattle.wad_levels.specs.declared.graphics.Graphics.{Graphics}
 use Rattle.wad_levels.specs.Listing.{listing_refusal}
-use Rattle.wad_levels.specs.Patches.{count_at, patch_widths, patches_of}
+use Rattle.wad_levels.specs.Patches.{count_at, patch_count, patch_widths, patches_of}
 pub use Rattle.wad_levels.specs.NamedLumps.{capital_name, lump_of_name, stands_inside}
 use Rattle.wad_file.specs.Directory.{entry, entry_has_name, first_failed, lump_count}
 use Rattle.wad_file.specs.Fields.{long_at}
@@ -56,12 +56,35 @@ texture_at lump n = long_at (4 * n + 4) lump
 abbrev pub is_texture_inside : List ℕ → ℕ → Bool
 is_texture_inside lump n = nat_le (texture_at lump n + 22) (length lump)
 
--- the lump is empty, or a list of textures: their count, the offset of each, and at each offset one
+-- all textures stand so in the lump
+abbrev pub are_all_inside : List ℕ → Bool
+are_all_inside lump =
+    list_all (is_texture_inside lump) (range_with_len 0 (texture_count lump))
+
+-- how many columns the n-th texture has
+abbrev pub column_count : List ℕ → ℕ → ℕ
+column_count lump n = count_at (texture_at lump n + 12) lump
+
+-- how many patches the n-th texture has
+abbrev pub nth_patch_count : List ℕ → ℕ → ℕ
+nth_patch_count lump n = patch_count lump (texture_at lump n)
+
+-- what all textures have together of what each has so many
+abbrev pub of_all : List ℕ → (ℕ → ℕ) → ℕ
+of_all lump count_of = sum_by count_of (range_with_len 0 (texture_count lump))
+
+-- a 128th of all textures' columns, or a quarter of all their patches, is more than the lump has bytes
+abbrev pub is_overfull : List ℕ → Bool
+is_overfull lump =
+    nat_lt (length lump) (of_all lump (column_count lump) / 128)
+    || nat_lt (length lump) (of_all lump (nth_patch_count lump) / 4)
+
+-- the lump is empty, or a list of textures that isn't overfull: their count, the offset of each, and at each offset one
 abbrev pub are_textures : List ℕ → Bool
 are_textures lump =
     (length lump == 0)
     || (nat_le 4 (length lump) && nat_le (4 * texture_count lump + 4) (length lump)
-    && list_all (is_texture_inside lump) (range_with_len 0 (texture_count lump)))
+    && (are_all_inside lump && not (is_overfull lump)))
 
 -- the texture that stands at a place: its name in capitals, its height, and whether more than one patch covers some
 -- column of it

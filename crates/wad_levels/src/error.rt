@@ -37,7 +37,7 @@ impl fmt::Display for ReadError {
             ReadError::LumpMissing => "a lump of the level is missing, or stands in another place",
             ReadError::LumpOutside => "a lump of the level ends beyond the file",
             ReadError::HexenLevel => "the level is one of Hexen",
-            ReadError::TextureLump => "a lump of textures names what stands beyond its end",
+            ReadError::TextureLump => "a lump of textures names more than it holds",
             ReadError::OutOfMemory => "out of memory",
         };
         f.write_str(text)

@@ -1,8 +1,7 @@
 //! A WAD's flats and textures.
-ghost use Rattle.std.specs.Prelude.{◌≡◌, ◌+◌, ◌*◌, ◌≤◌, ◌<◌, ◌++◌, true, length, IfOk, IsOkUnless, IsTrue, MatchResult, None, OnOk};
-ghost use Rattle.std.specs.List.{list_all, range_with_len};
+ghost use Rattle.std.specs.Prelude.{◌≡◌, ◌+◌, ◌≤◌, ◌<◌, ◌++◌, true, length, IfOk, IsOkUnless, IsTrue, MatchResult, None, OnOk};
 ghost use Rattle.wad_file.specs.Directory.{lump_count};
-ghost use Rattle.wad_levels.specs.Graphics.{RefusesGraphics, are_flats_open, are_textures, flat_names, graphics, graphics_refusal, graphics_view, is_texture_inside, texture_count, texture_from, textures_of};
+ghost use Rattle.wad_levels.specs.Graphics.{RefusesGraphics, are_flats_open, are_textures, flat_names, graphics, graphics_refusal, graphics_view, texture_from, textures_of};
 ghost use Rattle.wad_levels.specs.Patches.{patch_widths};
 
 use crate::error::ReadError;
@@ -10,6 +9,7 @@ use crate::listing::read_wad;
 use crate::named_lumps::{capital_name, lump_of_name, stands_inside};
 use crate::patch_widths::patch_widths;
 use crate::patches::{count_at, patches_of};
+use crate::texture_lump::{are_textures, texture_count};
 use byteorder::{ByteOrder, LittleEndian};
 use lump_records::Name8;
 use lump_textures::{Texture, is_patched};
@@ -56,46 +56,6 @@ fn flats_in(alloc: Global, wad: &Wad<'_>) -> Result<Vec<Name8>, ReadError>
         among_flats = flats_behind(wad, k, among_flats);
     }
     Ok(names)
-}
-
-// How many textures the lump lists.
-fn texture_count(lump: &[u8]) -> u32
-    requires { 4 ≤ length lump.now }
-    ensures { result ≡ texture_count lump.now }
-{
-    long_at(lump, 0)
-}
-
-// Whether the first 22 bytes of the n-th texture lie inside the lump.
-fn is_texture_inside(lump: &[u8], n: u32) -> bool
-    requires { 4 * n + 8 ≤ length lump.now }
-    ensures { result ≡ is_texture_inside lump.now n }
-{
-    u64::from(long_at(lump, 4 * n as usize + 4)) + 22 <= lump.len() as u64
-}
-
-// Whether all textures lie inside the lump. Their offsets do.
-fn are_all_inside(lump: &[u8]) -> bool
-    requires { 4 * texture_count lump.now + 4 ≤ length lump.now }
-    ensures { result
-        ≡ list_all (is_texture_inside lump.now) (range_with_len 0 (texture_count lump.now)) }
-{
-    for n in 0..texture_count(lump) {
-        if !is_texture_inside(lump, n) {
-            return false;
-        }
-    }
-    true
-}
-
-// Whether the lump is empty, or a whole list of textures.
-fn are_textures(lump: &[u8]) -> bool
-    ensures { result ≡ are_textures lump.now }
-{
-    if lump.len() < 4 {
-        return lump.is_empty();
-    }
-    4 * u64::from(texture_count(lump)) + 4 <= lump.len() as u64 && are_all_inside(lump)
 }
 
 // The texture that stands at a place of the lump; `widths` says how many columns each patch has.

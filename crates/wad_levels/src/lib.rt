@@ -15,6 +15,7 @@ mod named_lumps;
 mod needs;
 mod patch_widths;
 mod patches;
+mod texture_lump;
 
 pub use called::{is_asked_of, last_called, last_of_each};
 pub use drawn::{Drawn, level_lump, read_drawn, read_lists};

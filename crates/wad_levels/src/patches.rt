@@ -17,8 +17,8 @@ pub(crate) fn count_at(lump: &[u8], at: usize) -> u16
     if count < 32768 { count } else { 0 }
 }
 
-// How many patches the texture at a place has that lie wholly inside the lump.
-fn patch_count(lump: &[u8], at: usize) -> u16
+/// How many patches the texture at a place has that lie wholly inside the lump.
+pub(crate) fn patch_count(lump: &[u8], at: usize) -> u16
     requires { at + 22 ≤ length lump.now }
     ensures count { result ≡ patch_count lump.now at }
     ensures inside { at + 22 + 10 * result ≤ length lump.now }

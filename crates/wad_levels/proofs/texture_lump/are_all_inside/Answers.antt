@@ -1,7 +1,7 @@
 use Rattle.std.proofs.Common.{◌∙◌, ◌<◌, sym, arith}
 use Rattle.wad_levels.specs.Graphics.{is_texture_inside, texture_count}
 use Rattle.wad_levels.proofs.GraphicLemmas.{all_more, one_fails}
-use Rattle.wad_levels.proofs.graphics.are_all_inside.Goals as goal
+use Rattle.wad_levels.proofs.texture_lump.are_all_inside.Goals as goal
 
 pub returns-then-not-is_texture_inside : goal.returns-then-not-is_texture_inside
 returns-then-not-is_texture_inside c =

@@ -1,0 +1,8 @@
+-- What the textures so far have, each at most 65,535.
+use Rattle.std.specs.Prelude.{◌≡◌, ◌≤◌, ◌*◌, sum_by}
+use Rattle.std.specs.List.{range_with_len}
+use Rattle.wad_levels.specs.Graphics.{nth_patch_count}
+use Rattle.wad_levels.proofs.texture_lump.all_patches.Given as goal
+
+abbrev pub invariant-loop-n : goal.invariant-loop-n
+invariant-loop-n l = (l.sum ≡ sum_by (nth_patch_count l.lump) (range_with_len 0 l.n)) × (l.sum ≤ 65535 * l.n)
