@@ -29,7 +29,7 @@ stays_drawn m new cs es fs ds s h edges twice number keeps sides lines alone =
     })
 
 -- a border that lines cover in the map that commands lead to is covered in the one that they leave
-pub bordered_drawn : (m new : Tables) (cs : List Command) (es fs : List PlacedLine) (s : ℕ) → LeadTo m cs new → fs ≡ es → IsBordered fs s new
-    → IsBordered es s (drawn m cs)
+pub bordered_drawn : (m new : Tables) (cs : List Command) (es fs : List PlacedLine) (s : ℕ) → LeadTo m cs new → fs ≡ es → IsBordered fs s m new
+    → IsBordered es s m (drawn m cs)
 bordered_drawn m new cs es fs s h edges covered =
-    subst (λ (t : Tables). IsBordered es s t) (LeadTo-drawn m cs new h) (subst (λ (gs : List PlacedLine). IsBordered gs s new) edges covered)
+    subst (λ (t : Tables). IsBordered es s m t) (LeadTo-drawn m cs new h) (subst (λ (gs : List PlacedLine). IsBordered gs s m new) edges covered)

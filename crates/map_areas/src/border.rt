@@ -4,9 +4,10 @@ ghost use Rattle.map_areas.specs.Apart.{doubled, doubled_line, place_sum};
 ghost use Rattle.map_areas.specs.Errors.{IsOfMap};
 
 use crate::crossing::near_crossing;
-use crate::cuts::{is_between, put_along};
+use crate::cuts::put_along;
 use crate::drawing::number_of;
 use crate::error::AreaError;
+use crate::ways::is_between;
 use lump_records::Vertex;
 use map_plane::{PlacedLine, boxes_meet, crosses, is_inside, is_on, is_on_any};
 use map_tables::{Kind, Map};

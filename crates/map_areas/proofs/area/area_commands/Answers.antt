@@ -12,5 +12,5 @@ returns-clause-border c =
     let m = c.args.map.now.tables in
     let es : c.in_ok-edges.edges.items ≡ edges_round true c.args.area.now.corners.items =
     c.in_ok-edges.ensures.edges ∙ ap (λ (cs : List Vertex). edges_round true cs) c.deref.ensures.value in
-    subst (λ (gs : List PlacedLine). IfOk c.commands_within.result (λ commands. IsBordered gs (length m.sectors) (drawn m commands.items))) es
+    subst (λ (gs : List PlacedLine). IfOk c.commands_within.result (λ commands. IsBordered gs (length m.sectors) m (drawn m commands.items))) es
     c.commands_within.ensures.border

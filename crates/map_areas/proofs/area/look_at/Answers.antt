@@ -5,5 +5,5 @@ use Rattle.map_areas.proofs.area.look_at.Goals as goal
 
 pub returns-clause-border : goal.returns-clause-border
 returns-clause-border c =
-    subst (λ (s : ℕ). OnOk c.find_bordered.result (IsBordered c.args.border.now.edges.items s c.args.new.now.tables)) c.count-sectors.ensures.number
+    subst (λ (s : ℕ). OnOk c.find_bordered.result (IsBordered c.args.border.now.edges.items s c.args.map.now.tables c.args.new.now.tables)) c.count-sectors.ensures.number
     c.find_bordered.ensures.covered
