@@ -20,15 +20,14 @@ way a b = record { number = 0; from = a; to = b; is_wall = false }
 abbrev pub is_between : PlacedLine → Vertex → Bool
 is_between w p = is_on w p && not (ends_at w p)
 
--- a line crosses a way, or one of its ends lies on it, between its ends
-abbrev pub meets_between : PlacedLine → PlacedLine → Bool
-meets_between w l = boxes_meet w l
-    && ((has_on_both_sides w l && has_on_both_sides l w) || is_between w l.from
-    || is_between w l.to)
+-- a line crosses a way: their boxes meet, and each has the other's ends on both sides
+abbrev pub crosses_way : PlacedLine → PlacedLine → Bool
+crosses_way w l = boxes_meet w l && has_on_both_sides w l && has_on_both_sides l w
 
--- no line of the map does so: the way is along lines, or in one sector, as a whole
+-- no vertex lies on a way between its ends, and no line crosses it: the way is along lines, or in one sector, as a whole
 abbrev pub is_clear : Tables → PlacedLine → Bool
-is_clear m w = not (list_any (meets_between w) (placed_lines m))
+is_clear m w =
+    not (list_any (is_between w) m.vertices) && not (list_any (crosses_way w) (placed_lines m))
 
 -- a line runs along a way, as far as it leads
 abbrev pub runs_along : PlacedLine → PlacedLine → Bool

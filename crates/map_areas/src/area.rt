@@ -85,6 +85,7 @@ fn look_at(
     new: &Map,
     border: &Border,
 ) -> Result<(), AreaError>
+    requires vertices { ground.now.vertices.items ≡ map.now.tables.vertices }
     requires lines { ground.now.lines.items ≡ placed_lines map.now.tables }
     requires doubled { ground.now.doubled.items ≡ doubled (placed_lines map.now.tables) }
     ensures sides { OnOk result (EachBecomes (BecomesSide (length map.now.tables.sectors))

@@ -7,9 +7,9 @@ use crate::crossing::near_crossing;
 use crate::cuts::put_along;
 use crate::drawing::number_of;
 use crate::error::AreaError;
-use crate::ways::is_between;
+use crate::ways::{crosses_way, is_between};
 use lump_records::Vertex;
-use map_plane::{PlacedLine, boxes_meet, crosses, is_inside, is_on, is_on_any};
+use map_plane::{PlacedLine, is_inside, is_on, is_on_any};
 use map_tables::{Kind, Map};
 use std::alloc::{AllocError, Global};
 
@@ -91,7 +91,7 @@ fn put_crossings(
     ensures refused { IfErr result IsOfMap }
 {
     for line in lines {
-        if boxes_meet(edge, line) && crosses(edge, line) {
+        if crosses_way(edge, line) {
             put_along(stops, edge.from, crossing(edge, line)?)?;
         }
     }

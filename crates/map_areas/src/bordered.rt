@@ -133,12 +133,13 @@ fn is_walled(
     sector: u16,
     way: &PlacedLine,
 ) -> bool
+    requires vertices { ground.now.vertices.items ≡ old.now.tables.vertices }
     requires lines { ground.now.lines.items ≡ placed_lines old.now.tables }
     requires doubled { ground.now.doubled.items ≡ doubled (placed_lines old.now.tables) }
     requires new_lines { lines.now ≡ placed_lines new.now.tables }
     ensures { result ≡ is_walled old.now.tables new.now.tables sector way.now }
 {
-    is_clear(old, &ground.lines, way) && has_wall(old, ground, new, lines, sector, way)
+    is_clear(old, ground, way) && has_wall(old, ground, new, lines, sector, way)
 }
 
 // Whether lines lead over these places along the edge.
@@ -151,6 +152,7 @@ fn is_covered(
     edge: &PlacedLine,
     places: &[Vertex],
 ) -> bool
+    requires vertices { ground.now.vertices.items ≡ old.now.tables.vertices }
     requires lines { ground.now.lines.items ≡ placed_lines old.now.tables }
     requires doubled { ground.now.doubled.items ≡ doubled (placed_lines old.now.tables) }
     requires new_lines { lines.now ≡ placed_lines new.now.tables }
@@ -186,6 +188,7 @@ pub(crate) fn find_bordered(
     sector: u16,
     border: &Border,
 ) -> Result<(), AreaError>
+    requires vertices { ground.now.vertices.items ≡ old.now.tables.vertices }
     requires lines { ground.now.lines.items ≡ placed_lines old.now.tables }
     requires doubled { ground.now.doubled.items ≡ doubled (placed_lines old.now.tables) }
     requires new_lines { lines.now ≡ placed_lines new.now.tables }

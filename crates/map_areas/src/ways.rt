@@ -2,35 +2,43 @@
 ghost use Rattle.std.specs.Prelude.{◌≡◌, ◌&&◌, IfOk, find};
 ghost use Rattle.std.specs.List.{list_any};
 ghost use Rattle.map_areas.specs.Apart.{doubled};
-ghost use Rattle.map_areas.specs.Ways.{comes_before, faces_left, is_between, is_clear, is_on_left, is_same, left_faced, meets_between, right_faced, runs_along, runs_with, sector_between, sector_faced, sector_on_right, side_on_left, side_on_right, way};
+ghost use Rattle.map_areas.specs.Ways.{comes_before, crosses_way, faces_left, is_between, is_clear, is_on_left, is_same, left_faced, right_faced, runs_along, runs_with, sector_between, sector_faced, sector_on_right, side_on_left, side_on_right, way};
 ghost use Rattle.map_plane.specs.Meeting.{is_on, spans_meet};
 ghost use Rattle.map_plane.specs.Places.{placed_lines};
 
 use crate::border::{sum, twice};
+use crate::plan::vertices_of;
 use lump_records::{Line, Vertex};
 use map_plane::{
     PlacedLine, boxes_meet, crosses, ends_at, is_on, nearest, placed_lines, sector_shown,
     spans_meet,
 };
-use map_tables::Map;
-use std::alloc::{AllocError, Global};
+use map_tables::{Map, MapError};
+use std::alloc::Global;
 
-/// The lines of a map, and the same at twice the size.
+/// The vertices and the lines of a map, and the lines at twice the size.
 #[derive(Drop)]
 pub(crate) struct Ground {
+    pub vertices: Vec<Vertex>,
     pub lines: Vec<PlacedLine>,
     pub doubled: Vec<PlacedLine>,
 }
 
-/// The lines of the map, as they are.
-pub(crate) fn ground_of(alloc: Global, map: &Map) -> Result<Ground, AllocError>
+/// The vertices and the lines of the map, as they are.
+pub(crate) fn ground_of(alloc: Global, map: &Map) -> Result<Ground, MapError>
+    ensures vertices { IfOk result (λ ground. ground.vertices.items ≡ map.now.tables.vertices) }
     ensures lines { IfOk result (λ ground. ground.lines.items ≡ placed_lines map.now.tables) }
     ensures doubled { IfOk result (λ ground.
         ground.doubled.items ≡ doubled (placed_lines map.now.tables)) }
 {
+    let vertices = vertices_of(alloc, map)?;
     let lines = placed_lines(alloc, map)?;
     let doubled = twice(alloc, &lines)?;
-    Ok(Ground { lines, doubled })
+    Ok(Ground {
+        vertices,
+        lines,
+        doubled,
+    })
 }
 
 /// The way from one place to another.
@@ -68,27 +76,25 @@ pub(crate) fn is_between(line: &PlacedLine, place: Vertex) -> bool
     lies_on(line, place) && !ends_at(line, place)
 }
 
-// Whether the line crosses the way, or ends on it, between its ends.
-fn meets_between(way: &PlacedLine, line: &PlacedLine) -> bool
-    ensures { result ≡ meets_between way.now line.now }
+// Whether the line crosses the way.
+pub(crate) fn crosses_way(way: &PlacedLine, line: &PlacedLine) -> bool
+    ensures { result ≡ crosses_way way.now line.now }
 {
-    boxes_meet(way, line)
-        && (crosses(way, line) || is_between(way, line.from) || is_between(way, line.to))
+    boxes_meet(way, line) && crosses(way, line)
 }
 
-// Whether one of the lines does so.
-fn is_met(lines: &[PlacedLine], way: &PlacedLine) -> bool
-    ensures { result ≡ list_any (meets_between way.now) lines.now }
+// Whether one of the vertices lies on the way, between its ends.
+fn is_stopped(vertices: &[Vertex], way: &PlacedLine) -> bool
+    ensures { result ≡ list_any (is_between way.now) vertices.now }
 {
-    lines.iter().any(|line| meets_between(way, line))
+    vertices.iter().any(|vertex| is_between(way, *vertex))
 }
 
-/// Whether no line does so.
-pub(crate) fn is_clear(map: &Map, lines: &[PlacedLine], way: &PlacedLine) -> bool
-    requires { lines.now ≡ placed_lines map.now.tables }
-    ensures { result ≡ is_clear map.now.tables way.now }
+// Whether one of the lines crosses the way.
+fn is_crossed(lines: &[PlacedLine], way: &PlacedLine) -> bool
+    ensures { result ≡ list_any (crosses_way way.now) lines.now }
 {
-    !is_met(lines, way)
+    lines.iter().any(|line| crosses_way(way, line))
 }
 
 /// Whether the line runs along the way, as far as it leads.
@@ -230,4 +236,13 @@ pub(crate) fn is_on_left(map: &Map, ground: &Ground, way: &PlacedLine, sector: O
 {
     is_faced(map, &ground.lines, way, sector)
         || !is_lined(&ground.lines, way) && is_same(sector_between(map, ground, way), sector)
+}
+
+/// Whether no vertex lies on the way between its ends, and no line crosses it.
+pub(crate) fn is_clear(map: &Map, ground: &Ground, way: &PlacedLine) -> bool
+    requires vertices { ground.now.vertices.items ≡ map.now.tables.vertices }
+    requires lines { ground.now.lines.items ≡ placed_lines map.now.tables }
+    ensures { result ≡ is_clear map.now.tables way.now }
+{
+    !is_stopped(&ground.vertices, way) && !is_crossed(&ground.lines, way)
 }
