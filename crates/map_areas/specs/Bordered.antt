@@ -1,5 +1,5 @@
 -- The border of an area that was drawn: lines that cover each edge of its outline, end to end.
-use Rattle.std.specs.Prelude.{◌≡◌, ℕ, Bool, true, false, ◌&&◌, ◌||◌, ◌==◌, not, All, List, [], ◌∷◌, slice_get}
+use Rattle.std.specs.Prelude.{◌≡◌, ℕ, Bool, true, false, ◌&&◌, ◌||◌, ◌==◌, not, All, Option, List, [], ◌∷◌, slice_get}
 use Rattle.std.specs.List.{list_any}
 use Rattle.std.specs.Option.{option_map_or}
 use Rattle.lump_records.specs.declared.records.Vertex.{Vertex}
@@ -7,7 +7,7 @@ use Rattle.map_plane.specs.Meeting.{is_at, is_on}
 use Rattle.map_plane.specs.Places.{placed_lines}
 use Rattle.map_plane.specs.declared.places.PlacedLine.{PlacedLine}
 use Rattle.map_tables.specs.Tables.{Tables}
-use Rattle.map_areas.specs.Ways.{is_clear, is_on_left, sector_faced, way}
+use Rattle.map_areas.specs.Ways.{is_clear, is_on_left, is_same, sector_faced, sector_on_right, way}
 
 -- there is a side with this number, and it faces the sector
 abbrev pub faces_sector : Tables → ℕ → ℕ → Bool
@@ -39,21 +39,24 @@ is_wall_along old new sector w l =
     (leads w.from w.to l && has_on_right old new sector w l.number)
     || (leads w.to w.from l && has_on_left old new sector w l.number)
 
--- one line does so, and nothing that was there meets the way between its ends
-abbrev pub is_walled : Tables → Tables → ℕ → PlacedLine → Bool
-is_walled old new sector w =
-    is_clear old w && list_any (is_wall_along old new sector w) (placed_lines new)
+-- one line does so; what was on the right of the way is this sector or the void; and the way meets nothing between its
+-- ends
+abbrev pub is_walled : Tables → Tables → Option ℕ → ℕ → PlacedLine → Bool
+is_walled old new round sector w = is_clear old w && is_same (sector_on_right old w) round
+    && list_any (is_wall_along old new sector w) (placed_lines new)
 
 -- one line leads the whole way, or one to a place that lies on it, and lines from there on
-abbrev pub is_covered : Tables → Tables → ℕ → Vertex → Vertex → List Vertex → Bool
-is_covered old new sector from to [] = is_walled old new sector (way from to)
-is_covered old new sector from to (p ∷ ps) = is_on (way from to) p
-    && is_walled old new sector (way from p) && is_covered old new sector p to ps
+abbrev pub is_covered : Tables → Tables → Option ℕ → ℕ → Vertex → Vertex → List Vertex → Bool
+is_covered old new round sector from to [] = is_walled old new round sector (way from to)
+is_covered old new round sector from to (p ∷ ps) = is_on (way from to) p
+    && is_walled old new round sector (way from p) && is_covered old new round sector p to ps
 
--- lines lead along the edge from end to end, with the sector on its right, and on its left what was there
-abbrev pub IsCovered : Tables → Tables → ℕ → PlacedLine → Type 0
-IsCovered old new sector e = (ps : List Vertex) × (is_covered old new sector e.from e.to ps ≡ true)
+-- lines lead along the edge from end to end, with the new sector on its right in place of what was round, and on its
+-- left what was there
+abbrev pub IsCovered : Tables → Tables → Option ℕ → ℕ → PlacedLine → Type 0
+IsCovered old new round sector e =
+    (ps : List Vertex) × (is_covered old new round sector e.from e.to ps ≡ true)
 
 -- lines cover each edge so
-abbrev pub IsBordered : List PlacedLine → ℕ → Tables → Tables → Type 0
-IsBordered es sector old new = All (IsCovered old new sector) es
+abbrev pub IsBordered : List PlacedLine → Option ℕ → ℕ → Tables → Tables → Type 0
+IsBordered es round sector old new = All (IsCovered old new round sector) es

@@ -5,3 +5,4 @@ pub mod Outlines
 pub mod Apart
 pub mod Ways
 pub mod Bordered
+pub mod Areas

@@ -1,7 +1,8 @@
 //! The border of a polygon: its edges, and the places at which they are cut.
-ghost use Rattle.std.specs.Prelude.{◌≡◌, IfErr, IfOk};
+ghost use Rattle.std.specs.Prelude.{◌≡◌, ◌&&◌, IfErr, IfOk, true};
 ghost use Rattle.map_areas.specs.Apart.{doubled, doubled_line, place_sum};
 ghost use Rattle.map_areas.specs.Errors.{IsOfMap};
+ghost use Rattle.map_plane.specs.Meeting.{is_on};
 
 use crate::crossing::near_crossing;
 use crate::cuts::put_along;
@@ -57,6 +58,8 @@ pub(crate) fn twice(alloc: Global, lines: &[PlacedLine]) -> Result<Vec<PlacedLin
 
 // The whole place at which the edge crosses the line.
 fn crossing(edge: &PlacedLine, line: &PlacedLine) -> Result<Vertex, AreaError>
+    ensures whole { IfOk result (λ place.
+        (is_on edge.now place && is_on line.now place) ≡ true) }
     ensures refused { IfErr result IsOfMap }
 {
     let near = near_crossing(edge, line);

@@ -7,8 +7,9 @@ ghost use Rattle.map_areas.specs.Errors.{IsCommandRefusal};
 ghost use Rattle.map_plane.specs.Places.{placed_lines};
 
 use crate::border::Border;
+use crate::drawing::Paint;
 use crate::error::AreaError;
-use crate::ways::{Ground, is_clear, is_on_left, sector_faced, way};
+use crate::ways::{Ground, is_clear, is_on_left, is_same, sector_faced, sector_on_right, way};
 use lump_records::Vertex;
 use map_plane::{PlacedLine, is_at, is_on};
 use map_tables::Map;
@@ -124,22 +125,25 @@ fn has_wall(
         .any(|line| is_wall_along(old, ground, new, sector, way, line))
 }
 
-// Whether one line does so, and nothing that was there meets the way between its ends.
+// Whether one line does so, what was round the border is on the right of the way, and the way meets nothing between its
+// ends.
 fn is_walled(
     old: &Map,
     ground: &Ground,
     new: &Map,
     lines: &[PlacedLine],
-    sector: u16,
+    paint: &Paint,
     way: &PlacedLine,
 ) -> bool
     requires vertices { ground.now.vertices.items ≡ old.now.tables.vertices }
     requires lines { ground.now.lines.items ≡ placed_lines old.now.tables }
     requires doubled { ground.now.doubled.items ≡ doubled (placed_lines old.now.tables) }
     requires new_lines { lines.now ≡ placed_lines new.now.tables }
-    ensures { result ≡ is_walled old.now.tables new.now.tables sector way.now }
+    ensures { result ≡ is_walled old.now.tables new.now.tables paint.now.round paint.now.sector way.now }
 {
-    is_clear(old, ground, way) && has_wall(old, ground, new, lines, sector, way)
+    is_clear(old, ground, way)
+        && is_same(sector_on_right(old, ground, way), paint.round)
+        && has_wall(old, ground, new, lines, paint.sector, way)
 }
 
 // Whether lines lead over these places along the edge.
@@ -148,7 +152,7 @@ fn is_covered(
     ground: &Ground,
     new: &Map,
     lines: &[PlacedLine],
-    sector: u16,
+    paint: &Paint,
     edge: &PlacedLine,
     places: &[Vertex],
 ) -> bool
@@ -156,19 +160,19 @@ fn is_covered(
     requires lines { ground.now.lines.items ≡ placed_lines old.now.tables }
     requires doubled { ground.now.doubled.items ≡ doubled (placed_lines old.now.tables) }
     requires new_lines { lines.now ≡ placed_lines new.now.tables }
-    ensures { result ≡ is_covered old.now.tables new.now.tables sector edge.now.from edge.now.to
-        places.now }
+    ensures { result ≡ is_covered old.now.tables new.now.tables paint.now.round paint.now.sector
+        edge.now.from edge.now.to places.now }
 {
     let mut at = edge.from;
     for place in places {
         if !is_on(&way(at, edge.to), *place)
-            || !is_walled(old, ground, new, lines, sector, &way(at, *place))
+            || !is_walled(old, ground, new, lines, paint, &way(at, *place))
         {
             return false;
         }
         at = *place;
     }
-    is_walled(old, ground, new, lines, sector, &way(at, edge.to))
+    is_walled(old, ground, new, lines, paint, &way(at, edge.to))
 }
 
 // Those of the stops of a border that lie behind this one, before the place.
@@ -185,7 +189,7 @@ pub(crate) fn find_bordered(
     ground: &Ground,
     new: &Map,
     lines: &[PlacedLine],
-    sector: u16,
+    paint: &Paint,
     border: &Border,
 ) -> Result<(), AreaError>
     requires vertices { ground.now.vertices.items ≡ old.now.tables.vertices }
@@ -193,13 +197,14 @@ pub(crate) fn find_bordered(
     requires doubled { ground.now.doubled.items ≡ doubled (placed_lines old.now.tables) }
     requires new_lines { lines.now ≡ placed_lines new.now.tables }
     ensures covered { OnOk result
-        (All (IsCovered old.now.tables new.now.tables sector) border.now.edges.items) }
+        (All (IsCovered old.now.tables new.now.tables paint.now.round paint.now.sector)
+        border.now.edges.items) }
     ensures refused { IfErr result IsCommandRefusal }
 {
     let mut start = 0usize;
     for edge in &border.edges {
         let stops = stops_before(&border.stops, start, edge.to);
-        if !is_covered(old, ground, new, lines, sector, edge, stops) {
+        if !is_covered(old, ground, new, lines, paint, edge, stops) {
             return Err(AreaError::OutOfRange);
         }
         start = start.saturating_add(stops.len()).saturating_add(1);

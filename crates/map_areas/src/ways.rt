@@ -191,8 +191,8 @@ pub(crate) fn sector_on_right(map: &Map, ground: &Ground, way: &PlacedLine) -> O
     }
 }
 
-// Whether the sectors are the same, or both the void.
-fn is_same(a: Option<u16>, b: Option<u16>) -> bool
+/// Whether the sectors are the same, or both the void.
+pub(crate) fn is_same(a: Option<u16>, b: Option<u16>) -> bool
     ensures { result ≡ is_same a b }
 {
     a == b
