@@ -7,7 +7,7 @@ use Rattle.map_plane.specs.Meeting.{is_at, is_on}
 use Rattle.map_plane.specs.Places.{placed_lines}
 use Rattle.map_plane.specs.declared.places.PlacedLine.{PlacedLine}
 use Rattle.map_tables.specs.Tables.{Tables}
-use Rattle.map_areas.specs.Ways.{is_clear, is_on_left, is_same, sector_faced, sector_on_right, way}
+use Rattle.map_areas.specs.Ways.{is_clear, is_left_of_way, is_same, sector_by_side, sector_on_right, way}
 
 -- there is a side with this number, and it faces the sector
 abbrev pub faces_sector : Tables → ℕ → ℕ → Bool
@@ -17,7 +17,7 @@ faces_sector m side sector = option_map_or (λ s. s.sector == sector) (slice_get
 -- that was the void
 abbrev pub divides : Tables → Tables → ℕ → PlacedLine → ℕ → ℕ → Bool
 divides old new sector w inner outer = faces_sector new inner sector
-    && not (faces_sector new outer sector) && is_on_left old w (sector_faced new outer)
+    && not (faces_sector new outer sector) && is_left_of_way old w (sector_by_side new outer)
 
 -- the line with a number divides the sector, on its right, from what was on the left of the way
 abbrev pub has_on_right : Tables → Tables → ℕ → PlacedLine → ℕ → Bool

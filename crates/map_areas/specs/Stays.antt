@@ -68,8 +68,8 @@ pub record IsTurned (round : Option ℕ) (sector : ℕ) (old new : Side) : Type 
   pub was_round : round ≡ Some old.sector
   pub others : new ≡ record old { sector = sector }
 
--- what becomes of a side: it stays; it faced what was round the border and now faces the new sector; or, if that was the
--- void, its line became two-sided
+-- what becomes of a side: it stays; it faced what was round the border and now faces the new sector; or, if that was
+-- the void, its line became two-sided
 abbrev pub BecomesSide : Option ℕ → ℕ → Side → Side → Type 0
 BecomesSide round sector old new =
     (new ≡ old) ⊎ (IsTurned round sector old new ⊎ ((round ≡ None) × IsMadeOpen old new))

@@ -24,7 +24,8 @@ is_between w p = is_on w p && not (ends_at w p)
 abbrev pub crosses_way : PlacedLine → PlacedLine → Bool
 crosses_way w l = boxes_meet w l && has_on_both_sides w l && has_on_both_sides l w
 
--- no vertex lies on a way between its ends, and no line crosses it: the way is along lines, or in one sector, as a whole
+-- no vertex lies on a way between its ends, and no line crosses it: the way is along lines, or in one sector, as a
+-- whole
 abbrev pub is_clear : Tables → PlacedLine → Bool
 is_clear m w =
     not (list_any (is_between w) m.vertices) && not (list_any (crosses_way w) (placed_lines m))
@@ -43,8 +44,8 @@ runs_with w l =
     if comes_before w.from w.to then comes_before l.from l.to else comes_before l.to l.from
 
 -- the sector that a side faces, if there is such a side
-abbrev pub sector_faced : Tables → ℕ → Option ℕ
-sector_faced m side = option_map (λ s. s.sector) (slice_get m.sides side)
+abbrev pub sector_by_side : Tables → ℕ → Option ℕ
+sector_by_side m side = option_map (λ s. s.sector) (slice_get m.sides side)
 
 -- the side of a line along a way that is on the way's left
 abbrev pub side_on_left : PlacedLine → PlacedLine → Line → ℕ
@@ -53,7 +54,7 @@ side_on_left w l line = if runs_with w l then line.left else line.right
 -- the sector that a line along a way faces on the way's left, if it has a side there
 abbrev pub left_faced : Tables → PlacedLine → PlacedLine → Option ℕ
 left_faced m w l =
-    option_and_then (λ line. sector_faced m (side_on_left w l line)) (slice_get m.lines l.number)
+    option_and_then (λ line. sector_by_side m (side_on_left w l line)) (slice_get m.lines l.number)
 
 -- the sector that the middle of a way belongs to, by the lines at twice the size
 abbrev pub sector_between : Tables → PlacedLine → Option ℕ
@@ -67,7 +68,7 @@ side_on_right w l line = if runs_with w l then line.right else line.left
 -- the sector that a line along a way faces on the way's right, if it has a side there
 abbrev pub right_faced : Tables → PlacedLine → PlacedLine → Option ℕ
 right_faced m w l =
-    option_and_then (λ line. sector_faced m (side_on_right w l line)) (slice_get m.lines l.number)
+    option_and_then (λ line. sector_by_side m (side_on_right w l line)) (slice_get m.lines l.number)
 
 -- what is on the right of a way where this line is the first along it: what that faces there; where none is, what the
 -- middle of the way belongs to
@@ -89,6 +90,6 @@ faces_left m w sector l = runs_along w l && is_same (left_faced m w l) sector
 
 -- what is on the left of a way: a line along it faces this sector there, or, where there is none, its middle belongs to
 -- this sector
-abbrev pub is_on_left : Tables → PlacedLine → Option ℕ → Bool
-is_on_left m w sector = list_any (faces_left m w sector) (placed_lines m)
+abbrev pub is_left_of_way : Tables → PlacedLine → Option ℕ → Bool
+is_left_of_way m w sector = list_any (faces_left m w sector) (placed_lines m)
     || (not (list_any (runs_along w) (placed_lines m)) && is_same (sector_between m w) sector)

@@ -9,7 +9,9 @@ ghost use Rattle.map_plane.specs.Places.{placed_lines};
 use crate::border::Border;
 use crate::drawing::Paint;
 use crate::error::AreaError;
-use crate::ways::{Ground, is_clear, is_on_left, is_same, sector_faced, sector_on_right, way};
+use crate::ways::{
+    Ground, is_clear, is_left_of_way, is_same, sector_by_side, sector_on_right, way,
+};
 use lump_records::Vertex;
 use map_plane::{PlacedLine, is_at, is_on};
 use map_tables::Map;
@@ -40,7 +42,7 @@ fn divides(
 {
     faces_sector(new, inner, sector)
         && !faces_sector(new, outer, sector)
-        && is_on_left(old, ground, way, sector_faced(new, outer))
+        && is_left_of_way(old, ground, way, sector_by_side(new, outer))
 }
 
 // Whether the line with the number divides the sector, on its right, from what was on the left of the way.
@@ -139,7 +141,8 @@ fn is_walled(
     requires lines { ground.now.lines.items ≡ placed_lines old.now.tables }
     requires doubled { ground.now.doubled.items ≡ doubled (placed_lines old.now.tables) }
     requires new_lines { lines.now ≡ placed_lines new.now.tables }
-    ensures { result ≡ is_walled old.now.tables new.now.tables paint.now.round paint.now.sector way.now }
+    ensures { result
+        ≡ is_walled old.now.tables new.now.tables paint.now.round paint.now.sector way.now }
 {
     is_clear(old, ground, way)
         && is_same(sector_on_right(old, ground, way), paint.round)
@@ -182,8 +185,8 @@ fn stops_before(stops: &[Vertex], start: usize, to: Vertex) -> &[Vertex] {
     &rest[..count.unwrap_or(rest.len()).min(rest.len())]
 }
 
-/// Refuses commands that would leave a map in which no lines lead along an edge, with the sector on its right alone, and
-/// on its left what was there.
+/// Refuses commands that would leave a map in which no lines lead along an edge, with the sector on its right alone in
+/// place of what was round, and on its left what was there.
 pub(crate) fn find_bordered(
     old: &Map,
     ground: &Ground,

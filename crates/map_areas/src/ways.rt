@@ -2,7 +2,7 @@
 ghost use Rattle.std.specs.Prelude.{◌≡◌, ◌&&◌, IfOk, find};
 ghost use Rattle.std.specs.List.{list_any};
 ghost use Rattle.map_areas.specs.Apart.{doubled};
-ghost use Rattle.map_areas.specs.Ways.{comes_before, crosses_way, faces_left, is_between, is_clear, is_on_left, is_same, left_faced, right_faced, runs_along, runs_with, sector_between, sector_faced, sector_on_right, side_on_left, side_on_right, way};
+ghost use Rattle.map_areas.specs.Ways.{comes_before, crosses_way, faces_left, is_between, is_clear, is_left_of_way, is_same, left_faced, right_faced, runs_along, runs_with, sector_between, sector_by_side, sector_on_right, side_on_left, side_on_right, way};
 ghost use Rattle.map_plane.specs.Meeting.{is_on, spans_meet};
 ghost use Rattle.map_plane.specs.Places.{placed_lines};
 
@@ -123,8 +123,8 @@ pub(crate) fn runs_with(way: &PlacedLine, line: &PlacedLine) -> bool
 }
 
 /// The sector that a side faces, if there is such a side.
-pub(crate) fn sector_faced(map: &Map, side: u16) -> Option<u16>
-    ensures { result ≡ sector_faced map.now.tables side }
+pub(crate) fn sector_by_side(map: &Map, side: u16) -> Option<u16>
+    ensures { result ≡ sector_by_side map.now.tables side }
 {
     Some(map.side(u32::from(side))?.sector)
 }
@@ -145,7 +145,7 @@ fn left_faced(map: &Map, way: &PlacedLine, placed: &PlacedLine) -> Option<u16>
     ensures { result ≡ left_faced map.now.tables way.now placed.now }
 {
     let line = map.line(placed.number)?;
-    sector_faced(map, side_on_left(way, placed, &line))
+    sector_by_side(map, side_on_left(way, placed, &line))
 }
 
 // The line's side that is on the right of the way.
@@ -164,7 +164,7 @@ fn right_faced(map: &Map, way: &PlacedLine, placed: &PlacedLine) -> Option<u16>
     ensures { result ≡ right_faced map.now.tables way.now placed.now }
 {
     let line = map.line(placed.number)?;
-    sector_faced(map, side_on_right(way, placed, &line))
+    sector_by_side(map, side_on_right(way, placed, &line))
 }
 
 // The first of the lines that runs along the way.
@@ -229,10 +229,15 @@ pub(crate) fn sector_between(map: &Map, ground: &Ground, way: &PlacedLine) -> Op
 }
 
 /// Whether a line along the way faces this sector on its left, or, where no line is, its middle belongs to this sector.
-pub(crate) fn is_on_left(map: &Map, ground: &Ground, way: &PlacedLine, sector: Option<u16>) -> bool
+pub(crate) fn is_left_of_way(
+    map: &Map,
+    ground: &Ground,
+    way: &PlacedLine,
+    sector: Option<u16>,
+) -> bool
     requires lines { ground.now.lines.items ≡ placed_lines map.now.tables }
     requires doubled { ground.now.doubled.items ≡ doubled (placed_lines map.now.tables) }
-    ensures { result ≡ is_on_left map.now.tables way.now sector }
+    ensures { result ≡ is_left_of_way map.now.tables way.now sector }
 {
     is_faced(map, &ground.lines, way, sector)
         || !is_lined(&ground.lines, way) && is_same(sector_between(map, ground, way), sector)
