@@ -1,4 +1,4 @@
-use Rattle.std.proofs.Common.{◌≡◌, List, length, ◌∙◌, ap, subst, sym}
+use Rattle.std.proofs.Common.{◌≡◌, List, ◌∙◌, ap, subst, sym}
 use Rattle.map_commands.specs.declared.command.Command.{Command}
 use Rattle.map_plane.specs.declared.places.PlacedLine.{PlacedLine}
 use Rattle.map_areas.specs.Apart.{doubled}

@@ -1,4 +1,4 @@
-use Rattle.std.proofs.Common.{◌≡◌, List, [], ◌∷◌, ◌++◌, sym, ap, ◌∙◌, arith}
+use Rattle.std.proofs.Common.{List, [], ◌∷◌, ◌++◌, sym, ap, ◌∙◌, arith}
 use Rattle.lump_records.specs.declared.records.Vertex.{Vertex}
 use Rattle.map_areas.proofs.Copies.{is_there, one_more, all_there}
 use Rattle.map_areas.proofs.plan.vertices_of.Goals as goal
