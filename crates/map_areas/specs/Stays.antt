@@ -1,5 +1,5 @@
 -- What stays of a map when a shape is drawn into it.
-use Rattle.std.specs.Prelude.{◌≡◌, ◌⊎◌, ℕ, List, [], ◌∷◌, ◌++◌, Some, length, slice_get, bit_and, bit_or}
+use Rattle.std.specs.Prelude.{◌≡◌, ◌⊎◌, ℕ, List, [], ◌∷◌, ◌++◌, Option, Some, None, length, slice_get, bit_and, bit_or}
 use Rattle.lump_records.specs.Names.{name_of}
 use Rattle.lump_records.specs.declared.records.Line.{Line}
 use Rattle.lump_records.specs.declared.records.Name8.{Name8}
@@ -63,10 +63,16 @@ pub record IsMadeOpen (old new : Side) : Type 0 where
   pub others : new
       ≡ record old { upper = new.upper; lower = new.lower; middle = no_texture }
 
--- what becomes of a side: it stays, or it faces the new sector and stays otherwise, or its line became two-sided
-abbrev pub BecomesSide : ℕ → Side → Side → Type 0
-BecomesSide sector old new =
-    (new ≡ old) ⊎ ((new ≡ record old { sector = sector }) ⊎ IsMadeOpen old new)
+-- a side that faced what was round the border faces the new sector, and stays otherwise
+pub record IsTurned (round : Option ℕ) (sector : ℕ) (old new : Side) : Type 0 where
+  pub was_round : round ≡ Some old.sector
+  pub others : new ≡ record old { sector = sector }
+
+-- what becomes of a side: it stays; it faced what was round the border and now faces the new sector; or, if that was
+-- the void, its line became two-sided
+abbrev pub BecomesSide : Option ℕ → ℕ → Side → Side → Type 0
+BecomesSide round sector old new =
+    (new ≡ old) ⊎ (IsTurned round sector old new ⊎ ((round ≡ None) × IsMadeOpen old new))
 
 -- each item of a list is still there under its number, and what became of it is as the relation says
 abbrev pub EachBecomes : {X : Type 0} → (X → X → Type 0) → List X → List X → Type 0
@@ -88,8 +94,8 @@ pub record BecomesLine (old new : Line) : Type 0 where
 -- what stays when an area is drawn: vertices, sectors and things, each side but for what becomes of those on the border
 -- or inside, each line but for where it ends, what becomes of its flags, and its sides, and each line that the outline
 -- leaves alone altogether
-pub record KeepsRest (es : List PlacedLine) (old new : Tables) : Type 0 where
+pub record KeepsRest (es : List PlacedLine) (round : Option ℕ) (old new : Tables) : Type 0 where
   pub tables : KeepsItems old new
-  pub sides : EachBecomes (BecomesSide (length old.sectors)) old.sides new.sides
+  pub sides : EachBecomes (BecomesSide round (length old.sectors)) old.sides new.sides
   pub lines : EachBecomes BecomesLine old.lines new.lines
   pub alone : KeepsEachAlone es old new

@@ -1,24 +1,26 @@
 //! Areas: polygons that become sectors.
-ghost use Rattle.std.specs.Prelude.{ℕ, All, IfErr, IfOk, OnOk, length, true};
-ghost use Rattle.map_areas.specs.Apart.{KeepsAlone};
+ghost use Rattle.std.specs.Prelude.{◌≡◌, ℕ, All, IfErr, IfOk, OnOk, length, true};
+ghost use Rattle.map_areas.specs.Apart.{KeepsAlone, doubled};
 ghost use Rattle.map_areas.specs.Bordered.{IsBordered};
 ghost use Rattle.map_areas.specs.Drawn.{AreTaken, drawn};
 ghost use Rattle.map_areas.specs.Errors.{IsOfMap};
 ghost use Rattle.map_areas.specs.Outlines.{JudgesCorners, edges_round};
-ghost use Rattle.map_areas.specs.Stays.{BecomesLine, BecomesSide, EachBecomes, KeepsRest};
+ghost use Rattle.map_areas.specs.Areas.{DrawsArea};
+ghost use Rattle.map_areas.specs.Stays.{BecomesLine, BecomesSide, EachBecomes};
 ghost use Rattle.map_commands.specs.Step.{InRange};
+ghost use Rattle.map_plane.specs.Places.{placed_lines};
 
 use crate::alone::find_alone;
-use crate::border::{Border, border_of, twice};
+use crate::border::{Border, border_of};
 use crate::bordered::find_bordered;
 use crate::drawing::{Drawing, Paint, drawing_of};
 use crate::error::AreaError;
 use crate::inside::find_none_inside;
 use crate::kept::find_kept;
-use crate::plan::Plan;
 use crate::polygon::polygon;
 use crate::round::sector_round;
 use crate::trial::try_commands;
+use crate::ways::{Ground, ground_of};
 use lump_records::{Name8, Sector, Vertex};
 use map_commands::Command;
 use map_plane::{PlacedLine, placed_lines};
@@ -38,16 +40,16 @@ pub struct Area {
 fn find_round(
     alloc: Global,
     map: &Map,
-    plan: &Plan,
-    lines: &[PlacedLine],
+    ground: &Ground,
     border: &Border,
 ) -> Result<Option<u16>, AreaError>
+    requires lines { ground.now.lines.items ≡ placed_lines map.now.tables }
+    requires doubled { ground.now.doubled.items ≡ doubled (placed_lines map.now.tables) }
     ensures refused { IfErr result IsOfMap }
 {
-    let doubled = twice(alloc, lines)?;
-    let round = sector_round(map, plan, lines, &doubled, border)?;
+    let round = sector_round(map, ground, border)?;
     if round.is_none() {
-        find_none_inside(alloc, lines, border)?;
+        find_none_inside(alloc, &ground.lines, border)?;
     }
     Ok(round)
 }
@@ -56,44 +58,47 @@ fn find_round(
 fn draw(
     alloc: Global,
     drawing: &mut Drawing,
-    area: &Area,
-    round: Option<u16>,
+    sector: Sector,
+    paint: &Paint,
     border: &Border,
 ) -> Result<(), MapError> {
-    let sector = drawing.plan.add_sector(area.sector)?;
+    drawing.plan.add_sector(sector)?;
     drawing.add_vertices(border)?;
-    let paint = Paint {
-        sector,
-        round,
-        wall: area.wall,
-    };
     let lines = drawing.plan.placed_lines(alloc)?;
-    drawing.draw_border(&lines, &paint, border)?;
-    if round.is_some() {
-        drawing.turn_inside(&lines, &paint, border)?;
+    drawing.draw_border(&lines, paint, border)?;
+    if paint.round.is_some() {
+        drawing.turn_inside(&lines, paint, border)?;
     }
     Ok(())
 }
 
 // Refuses commands that would leave the second map, if something else becomes of what was there than an area makes of
 // it, or lines don't lead along the border.
-fn look_at(alloc: Global, map: &Map, new: &Map, border: &Border) -> Result<(), AreaError>
-    ensures sides { OnOk result (EachBecomes (BecomesSide (length map.now.tables.sectors))
+fn look_at(
+    alloc: Global,
+    map: &Map,
+    ground: &Ground,
+    new: &Map,
+    paint: &Paint,
+    border: &Border,
+) -> Result<(), AreaError>
+    requires vertices { ground.now.vertices.items ≡ map.now.tables.vertices }
+    requires lines { ground.now.lines.items ≡ placed_lines map.now.tables }
+    requires doubled { ground.now.doubled.items ≡ doubled (placed_lines map.now.tables) }
+    ensures sides { OnOk result (EachBecomes (BecomesSide paint.now.round paint.now.sector)
         map.now.tables.sides new.now.tables.sides) }
     ensures lines { OnOk result
         (EachBecomes BecomesLine map.now.tables.lines new.now.tables.lines) }
     ensures alone { OnOk result ((n : ℕ) → KeepsAlone border.now.edges.items
         border.now.doubled.items map.now.tables new.now.tables n) }
-    ensures border { OnOk result (IsBordered border.now.edges.items
-        (length map.now.tables.sectors) new.now.tables) }
+    ensures border { OnOk result (IsBordered border.now.edges.items paint.now.round
+        paint.now.sector map.now.tables new.now.tables) }
     ensures refused { IfErr result IsOfMap }
 {
-    let sectors = map.count(Kind::Sector);
-    let sector = sectors as u16;
-    find_kept(map, new, sector)?;
+    find_kept(map, new, paint.round, paint.sector)?;
     find_alone(map, new, border)?;
     let lines = placed_lines(alloc, new)?;
-    find_bordered(new, &lines, sector, border)
+    find_bordered(map, ground, new, &lines, paint, border)
 }
 
 // The commands that draw the area, whose edges run clockwise, into the map.
@@ -105,22 +110,26 @@ fn commands_within(
 ) -> Result<Vec<Command>, AreaError>
     ensures range { IfOk result (λ commands. All InRange commands.items) }
     ensures taken { IfOk result (λ commands. AreTaken map.now.tables commands.items) }
-    ensures stays { IfOk result (λ commands.
-        KeepsRest edges.items map.now.tables (drawn map.now.tables commands.items)) }
-    ensures border { IfOk result (λ commands. IsBordered edges.items
-        (length map.now.tables.sectors) (drawn map.now.tables commands.items)) }
+    ensures area { IfOk result (λ commands.
+        DrawsArea edges.items map.now.tables (drawn map.now.tables commands.items)) }
     ensures refused { IfErr result IsOfMap }
 {
-    let lines = placed_lines(alloc, map)?;
-    let border = border_of(alloc, map, &lines, edges)?;
+    let ground = ground_of(alloc, map)?;
+    let border = border_of(alloc, map, &ground.lines, edges)?;
+    let round = find_round(alloc, map, &ground, &border)?;
     let mut drawing = drawing_of(alloc, map)?;
-    let round = find_round(alloc, map, &drawing.plan, &lines, &border)?;
-    drawing.cut_lines(alloc, &lines, &border)?;
-    draw(alloc, &mut drawing, area, round, &border)?;
+    drawing.cut_lines(alloc, &ground.lines, &border)?;
+    let sectors = map.count(Kind::Sector);
+    let paint = Paint {
+        sector: sectors as u16,
+        round,
+        wall: area.wall,
+    };
+    draw(alloc, &mut drawing, area.sector, &paint, &border)?;
     let commands = drawing.into_commands();
     let all = commands.as_slice();
     let new = try_commands(alloc, map, all)?;
-    look_at(alloc, map, &new, &border)?;
+    look_at(alloc, map, &ground, &new, &paint, &border)?;
     Ok(commands)
 }
 
@@ -129,12 +138,8 @@ pub fn area_commands(alloc: Global, map: &Map, area: &Area) -> Result<Vec<Comman
     ensures polygon { JudgesCorners area.now.corners.items result }
     ensures range { IfOk result (λ commands. All InRange commands.items) }
     ensures taken { IfOk result (λ commands. AreTaken map.now.tables commands.items) }
-    ensures stays { IfOk result (λ commands.
-        KeepsRest (edges_round true area.now.corners.items) map.now.tables
-        (drawn map.now.tables commands.items)) }
-    ensures border { IfOk result (λ commands.
-        IsBordered (edges_round true area.now.corners.items)
-        (length map.now.tables.sectors) (drawn map.now.tables commands.items)) }
+    ensures area { IfOk result (λ commands. DrawsArea (edges_round true area.now.corners.items)
+        map.now.tables (drawn map.now.tables commands.items)) }
 {
     let edges = polygon(alloc, &area.corners, true)?;
     commands_within(alloc, map, area, edges)

@@ -1,14 +1,16 @@
 //! The border of a polygon: its edges, and the places at which they are cut.
-ghost use Rattle.std.specs.Prelude.{◌≡◌, IfErr, IfOk};
+ghost use Rattle.std.specs.Prelude.{◌≡◌, ◌&&◌, IfErr, IfOk, true};
 ghost use Rattle.map_areas.specs.Apart.{doubled, doubled_line, place_sum};
 ghost use Rattle.map_areas.specs.Errors.{IsOfMap};
+ghost use Rattle.map_plane.specs.Meeting.{is_on};
 
 use crate::crossing::near_crossing;
-use crate::cuts::{is_between, put_along};
+use crate::cuts::put_along;
 use crate::drawing::number_of;
 use crate::error::AreaError;
+use crate::ways::{crosses_way, is_between};
 use lump_records::Vertex;
-use map_plane::{PlacedLine, boxes_meet, crosses, is_inside, is_on, is_on_any};
+use map_plane::{PlacedLine, is_inside, is_on, is_on_any};
 use map_tables::{Kind, Map};
 use std::alloc::{AllocError, Global};
 
@@ -56,6 +58,8 @@ pub(crate) fn twice(alloc: Global, lines: &[PlacedLine]) -> Result<Vec<PlacedLin
 
 // The whole place at which the edge crosses the line.
 fn crossing(edge: &PlacedLine, line: &PlacedLine) -> Result<Vertex, AreaError>
+    ensures whole { IfOk result (λ place.
+        (is_on edge.now place && is_on line.now place) ≡ true) }
     ensures refused { IfErr result IsOfMap }
 {
     let near = near_crossing(edge, line);
@@ -90,7 +94,7 @@ fn put_crossings(
     ensures refused { IfErr result IsOfMap }
 {
     for line in lines {
-        if boxes_meet(edge, line) && crosses(edge, line) {
+        if crosses_way(edge, line) {
             put_along(stops, edge.from, crossing(edge, line)?)?;
         }
     }

@@ -1,13 +1,18 @@
 //! The border of what was drawn, looked at in the map that the commands leave.
-ghost use Rattle.std.specs.Prelude.{◌≡◌, ◌&&◌, All, IfErr, OnOk};
-ghost use Rattle.map_areas.specs.Bordered.{divides, faces_sector, is_covered, is_wall_along, is_walled, shows_right, way, IsCovered};
+ghost use Rattle.std.specs.Prelude.{◌≡◌, All, IfErr, OnOk};
+ghost use Rattle.std.specs.List.{list_any};
+ghost use Rattle.map_areas.specs.Apart.{doubled};
+ghost use Rattle.map_areas.specs.Bordered.{divides, faces_sector, has_on_left, has_on_right, is_covered, is_wall_along, is_walled, leads, IsCovered};
 ghost use Rattle.map_areas.specs.Errors.{IsCommandRefusal};
-ghost use Rattle.map_plane.specs.Meeting.{is_at, is_on};
 ghost use Rattle.map_plane.specs.Places.{placed_lines};
 
 use crate::border::Border;
+use crate::drawing::Paint;
 use crate::error::AreaError;
-use lump_records::{Line, Vertex};
+use crate::ways::{
+    Ground, is_clear, is_left_of_way, is_same, sector_by_side, sector_on_right, way,
+};
+use lump_records::Vertex;
 use map_plane::{PlacedLine, is_at, is_on};
 use map_tables::Map;
 
@@ -21,88 +26,156 @@ fn faces_sector(map: &Map, side: u16, sector: u16) -> bool
     }
 }
 
-// Whether the one side faces the sector, and the other one doesn't.
-fn divides(map: &Map, sector: u16, inner: u16, outer: u16) -> bool
-    ensures { result ≡ divides map.now.tables sector inner outer }
-{
-    faces_sector(map, inner, sector) && !faces_sector(map, outer, sector)
-}
-
-// Whether the line leads from one place to the other.
-fn leads(line: &PlacedLine, from: Vertex, to: Vertex) -> bool
-    ensures { result ≡ (is_at line.now.from from && is_at line.now.to to) }
-{
-    is_at(line.from, from) && is_at(line.to, to)
-}
-
-// Whether a line with this record leads from one place to the other, with the sector on the right of the way alone.
-fn shows_right(
-    map: &Map,
+// Whether the one side faces the sector, and the other one what was on the left of the way, not the sector.
+fn divides(
+    old: &Map,
+    ground: &Ground,
+    new: &Map,
     sector: u16,
-    from: Vertex,
-    to: Vertex,
-    placed: &PlacedLine,
-    line: &Line,
+    way: &PlacedLine,
+    inner: u16,
+    outer: u16,
 ) -> bool
-    ensures { result ≡ shows_right map.now.tables sector from to placed.now line.now }
+    requires lines { ground.now.lines.items ≡ placed_lines old.now.tables }
+    requires doubled { ground.now.doubled.items ≡ doubled (placed_lines old.now.tables) }
+    ensures { result ≡ divides old.now.tables new.now.tables sector way.now inner outer }
 {
-    leads(placed, from, to) && divides(map, sector, line.right, line.left)
-        || leads(placed, to, from) && divides(map, sector, line.left, line.right)
+    faces_sector(new, inner, sector)
+        && !faces_sector(new, outer, sector)
+        && is_left_of_way(old, ground, way, sector_by_side(new, outer))
 }
 
-// The same of a line with its number.
-fn is_wall_along(map: &Map, sector: u16, from: Vertex, to: Vertex, placed: &PlacedLine) -> bool
-    ensures { result ≡ is_wall_along map.now.tables sector from to placed.now }
+// Whether the line with the number divides the sector, on its right, from what was on the left of the way.
+fn has_on_right(
+    old: &Map,
+    ground: &Ground,
+    new: &Map,
+    sector: u16,
+    way: &PlacedLine,
+    number: u32,
+) -> bool
+    requires lines { ground.now.lines.items ≡ placed_lines old.now.tables }
+    requires doubled { ground.now.doubled.items ≡ doubled (placed_lines old.now.tables) }
+    ensures { result ≡ has_on_right old.now.tables new.now.tables sector way.now number }
 {
-    match map.line(placed.number) {
-        Some(line) => shows_right(map, sector, from, to, placed, &line),
+    match new.line(number) {
+        Some(line) => divides(old, ground, new, sector, way, line.right, line.left),
         None => false,
     }
 }
 
+// The same of the sector on the line's left.
+fn has_on_left(
+    old: &Map,
+    ground: &Ground,
+    new: &Map,
+    sector: u16,
+    way: &PlacedLine,
+    number: u32,
+) -> bool
+    requires lines { ground.now.lines.items ≡ placed_lines old.now.tables }
+    requires doubled { ground.now.doubled.items ≡ doubled (placed_lines old.now.tables) }
+    ensures { result ≡ has_on_left old.now.tables new.now.tables sector way.now number }
+{
+    match new.line(number) {
+        Some(line) => divides(old, ground, new, sector, way, line.left, line.right),
+        None => false,
+    }
+}
+
+// Whether the line leads from one place to the other.
+fn leads(from: Vertex, to: Vertex, line: &PlacedLine) -> bool
+    ensures { result ≡ leads from to line.now }
+{
+    is_at(line.from, from) && is_at(line.to, to)
+}
+
+// Whether the line leads the whole way, there or back, with the sector on the right of the way, and what was on its
+// left there still.
+fn is_wall_along(
+    old: &Map,
+    ground: &Ground,
+    new: &Map,
+    sector: u16,
+    way: &PlacedLine,
+    line: &PlacedLine,
+) -> bool
+    requires lines { ground.now.lines.items ≡ placed_lines old.now.tables }
+    requires doubled { ground.now.doubled.items ≡ doubled (placed_lines old.now.tables) }
+    ensures { result ≡ is_wall_along old.now.tables new.now.tables sector way.now line.now }
+{
+    leads(way.from, way.to, line) && has_on_right(old, ground, new, sector, way, line.number)
+        || leads(way.to, way.from, line) && has_on_left(old, ground, new, sector, way, line.number)
+}
+
 // Whether one of the lines does so.
-fn is_walled(map: &Map, lines: &[PlacedLine], sector: u16, from: Vertex, to: Vertex) -> bool
-    requires { lines.now ≡ placed_lines map.now.tables }
-    ensures { result ≡ is_walled map.now.tables sector from to }
+fn has_wall(
+    old: &Map,
+    ground: &Ground,
+    new: &Map,
+    lines: &[PlacedLine],
+    sector: u16,
+    way: &PlacedLine,
+) -> bool
+    requires lines { ground.now.lines.items ≡ placed_lines old.now.tables }
+    requires doubled { ground.now.doubled.items ≡ doubled (placed_lines old.now.tables) }
+    ensures { result ≡ list_any (is_wall_along old.now.tables new.now.tables sector way.now)
+        lines.now }
 {
     lines
         .iter()
-        .any(|line| is_wall_along(map, sector, from, to, line))
+        .any(|line| is_wall_along(old, ground, new, sector, way, line))
 }
 
-// Whether the place lies on the way from one place to another.
-fn is_on_way(from: Vertex, to: Vertex, place: Vertex) -> bool
-    ensures { result ≡ is_on (way from to) place }
-{
-    let way = PlacedLine {
-        number: 0,
-        from,
-        to,
-        is_wall: false,
-    };
-    is_on(&way, place)
-}
-
-// Whether lines lead over these places from one place to another.
-fn is_covered(
-    map: &Map,
+// Whether one line does so, what was round the border is on the right of the way, and the way meets nothing between its
+// ends.
+fn is_walled(
+    old: &Map,
+    ground: &Ground,
+    new: &Map,
     lines: &[PlacedLine],
-    sector: u16,
-    from: Vertex,
-    to: Vertex,
+    paint: &Paint,
+    way: &PlacedLine,
+) -> bool
+    requires vertices { ground.now.vertices.items ≡ old.now.tables.vertices }
+    requires lines { ground.now.lines.items ≡ placed_lines old.now.tables }
+    requires doubled { ground.now.doubled.items ≡ doubled (placed_lines old.now.tables) }
+    requires new_lines { lines.now ≡ placed_lines new.now.tables }
+    ensures { result
+        ≡ is_walled old.now.tables new.now.tables paint.now.round paint.now.sector way.now }
+{
+    is_clear(old, ground, way)
+        && is_same(sector_on_right(old, ground, way), paint.round)
+        && has_wall(old, ground, new, lines, paint.sector, way)
+}
+
+// Whether lines lead over these places along the edge.
+fn is_covered(
+    old: &Map,
+    ground: &Ground,
+    new: &Map,
+    lines: &[PlacedLine],
+    paint: &Paint,
+    edge: &PlacedLine,
     places: &[Vertex],
 ) -> bool
-    requires { lines.now ≡ placed_lines map.now.tables }
-    ensures { result ≡ is_covered map.now.tables sector from to places.now }
+    requires vertices { ground.now.vertices.items ≡ old.now.tables.vertices }
+    requires lines { ground.now.lines.items ≡ placed_lines old.now.tables }
+    requires doubled { ground.now.doubled.items ≡ doubled (placed_lines old.now.tables) }
+    requires new_lines { lines.now ≡ placed_lines new.now.tables }
+    ensures { result ≡ is_covered old.now.tables new.now.tables paint.now.round paint.now.sector
+        edge.now.from edge.now.to places.now }
 {
-    let mut at = from;
+    let mut at = edge.from;
     for place in places {
-        if !is_on_way(at, to, *place) || !is_walled(map, lines, sector, at, *place) {
+        if !is_on(&way(at, edge.to), *place)
+            || !is_walled(old, ground, new, lines, paint, &way(at, *place))
+        {
             return false;
         }
         at = *place;
     }
-    is_walled(map, lines, sector, at, to)
+    is_walled(old, ground, new, lines, paint, &way(at, edge.to))
 }
 
 // Those of the stops of a border that lie behind this one, before the place.
@@ -112,22 +185,29 @@ fn stops_before(stops: &[Vertex], start: usize, to: Vertex) -> &[Vertex] {
     &rest[..count.unwrap_or(rest.len()).min(rest.len())]
 }
 
-/// Refuses commands that would leave a map in which no lines lead along an edge, with the sector on its right alone.
+/// Refuses commands that would leave a map in which no lines lead along an edge, with the sector on its right alone in
+/// place of what was round, and on its left what was there.
 pub(crate) fn find_bordered(
-    map: &Map,
+    old: &Map,
+    ground: &Ground,
+    new: &Map,
     lines: &[PlacedLine],
-    sector: u16,
+    paint: &Paint,
     border: &Border,
 ) -> Result<(), AreaError>
-    requires { lines.now ≡ placed_lines map.now.tables }
+    requires vertices { ground.now.vertices.items ≡ old.now.tables.vertices }
+    requires lines { ground.now.lines.items ≡ placed_lines old.now.tables }
+    requires doubled { ground.now.doubled.items ≡ doubled (placed_lines old.now.tables) }
+    requires new_lines { lines.now ≡ placed_lines new.now.tables }
     ensures covered { OnOk result
-        (All (IsCovered map.now.tables sector) border.now.edges.items) }
+        (All (IsCovered old.now.tables new.now.tables paint.now.round paint.now.sector)
+        border.now.edges.items) }
     ensures refused { IfErr result IsCommandRefusal }
 {
     let mut start = 0usize;
     for edge in &border.edges {
         let stops = stops_before(&border.stops, start, edge.to);
-        if !is_covered(map, lines, sector, edge.from, edge.to, stops) {
+        if !is_covered(old, ground, new, lines, paint, edge, stops) {
             return Err(AreaError::OutOfRange);
         }
         start = start.saturating_add(stops.len()).saturating_add(1);

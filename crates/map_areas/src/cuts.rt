@@ -1,6 +1,7 @@
 //! Places along a line, in order.
+use crate::ways::is_between;
 use lump_records::Vertex;
-use map_plane::{PlacedLine, ends_at, is_on, spans_meet};
+use map_plane::PlacedLine;
 use std::alloc::{AllocError, Global};
 
 // How far two places are apart, along the axes.
@@ -29,14 +30,6 @@ pub(crate) fn put_along(
     }
     places.insert(at, place)?;
     Ok(())
-}
-
-/// Whether the place lies on the line, between its ends.
-pub(crate) fn is_between(line: &PlacedLine, place: Vertex) -> bool {
-    spans_meet(line.from.x, line.to.x, place.x, place.x)
-        && spans_meet(line.from.y, line.to.y, place.y, place.y)
-        && is_on(line, place)
-        && !ends_at(line, place)
 }
 
 /// Those of the places that lie between the line's ends, in their order along it.

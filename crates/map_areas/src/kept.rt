@@ -1,7 +1,7 @@
 //! What becomes of the sides and lines that were there, looked at in the map that the commands leave.
-ghost use Rattle.std.specs.Prelude.{◌≡◌, ◌↔◌, ◌⊎◌, IfErr, IsTrue, OnOk};
+ghost use Rattle.std.specs.Prelude.{◌≡◌, ◌↔◌, ◌⊎◌, IfErr, IsTrue, None, OnOk, Some};
 ghost use Rattle.map_areas.specs.Errors.{IsCommandRefusal};
-ghost use Rattle.map_areas.specs.Stays.{BecomesLine, BecomesSide, EachBecomes, IsMadeOpen, TakesOver, no_texture, opened_flags};
+ghost use Rattle.map_areas.specs.Stays.{BecomesLine, BecomesSide, EachBecomes, IsMadeOpen, IsTurned, TakesOver, no_texture, opened_flags};
 
 use crate::error::AreaError;
 use crate::walls::{NO_TEXTURE, opened_flags};
@@ -40,18 +40,45 @@ fn is_opened(old: &Side, new: &Side) -> bool
         && takes_over(&old.lower, &old.middle, &new.lower)
 }
 
+// Whether the sector is what was round the border.
+fn is_round(round: Option<u16>, sector: u16) -> bool
+    ensures { IsTrue result → round ≡ Some sector }
+{
+    match round {
+        Some(round) => round == sector,
+        None => false,
+    }
+}
+
 // Whether the side is the same but for the sector that it faces.
-fn is_turned(old: &Side, new: &Side, sector: u16) -> bool
+fn faces_only(old: &Side, new: &Side, sector: u16) -> bool
     ensures { IsTrue result ↔ (new.now ≡ record old.now { sector = sector }) }
 {
     *new == Side { sector, ..*old }
 }
 
-// Whether the side became what an area makes of sides.
-fn is_kept_side(old: &Side, new: &Side, sector: u16) -> bool
-    ensures { IsTrue result → BecomesSide sector old.now new.now }
+// Whether the side faced what was round the border, and is the same but for the sector that it faces.
+fn is_turned(old: &Side, new: &Side, round: Option<u16>, sector: u16) -> bool
+    ensures { IsTrue result → IsTurned round sector old.now new.now }
 {
-    *new == *old || is_turned(old, new, sector) || is_opened(old, new)
+    is_round(round, old.sector) && faces_only(old, new, sector)
+}
+
+// Whether the void was round the border.
+fn is_void(round: Option<u16>) -> bool
+    ensures { IsTrue result → round ≡ None }
+{
+    match round {
+        Some(_) => false,
+        None => true,
+    }
+}
+
+// Whether the side became what an area makes of sides.
+fn is_kept_side(old: &Side, new: &Side, round: Option<u16>, sector: u16) -> bool
+    ensures { IsTrue result → BecomesSide round sector old.now new.now }
+{
+    *new == *old || is_turned(old, new, round, sector) || is_void(round) && is_opened(old, new)
 }
 
 // Whether the flags are the same, or those of a line that became two-sided.
@@ -72,16 +99,16 @@ fn is_kept_line(old: &Line, new: &Line) -> bool
 }
 
 // Whether each side became what an area makes of sides.
-fn keeps_sides(map: &Map, new: &Map, sector: u16) -> bool
+fn keeps_sides(map: &Map, new: &Map, round: Option<u16>, sector: u16) -> bool
     ensures { IsTrue result
-        → EachBecomes (BecomesSide sector) map.now.tables.sides new.now.tables.sides }
+        → EachBecomes (BecomesSide round sector) map.now.tables.sides new.now.tables.sides }
 {
     for n in 0..map.count(Kind::Side) {
         let side = map.side(n).unwrap();
         let Some(found) = new.side(n) else {
             return false;
         };
-        if !is_kept_side(&side, &found, sector) {
+        if !is_kept_side(&side, &found, round, sector) {
             return false;
         }
     }
@@ -106,14 +133,19 @@ fn keeps_lines(map: &Map, new: &Map) -> bool
 }
 
 /// Refuses commands that would leave a map in which something else became of a side or a line than an area makes of it.
-pub(crate) fn find_kept(map: &Map, new: &Map, sector: u16) -> Result<(), AreaError>
+pub(crate) fn find_kept(
+    map: &Map,
+    new: &Map,
+    round: Option<u16>,
+    sector: u16,
+) -> Result<(), AreaError>
     ensures sides { OnOk result
-        (EachBecomes (BecomesSide sector) map.now.tables.sides new.now.tables.sides) }
+        (EachBecomes (BecomesSide round sector) map.now.tables.sides new.now.tables.sides) }
     ensures lines { OnOk result
         (EachBecomes BecomesLine map.now.tables.lines new.now.tables.lines) }
     ensures refused { IfErr result IsCommandRefusal }
 {
-    if keeps_sides(map, new, sector) && keeps_lines(map, new) {
+    if keeps_sides(map, new, round, sector) && keeps_lines(map, new) {
         return Ok(());
     }
     Err(AreaError::OutOfRange)

@@ -20,6 +20,7 @@ mod round;
 mod trial;
 mod uses;
 mod walls;
+mod ways;
 
 pub use area::{Area, area_commands};
 pub use error::{AreaError, Part};

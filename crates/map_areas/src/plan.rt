@@ -1,4 +1,6 @@
 //! A plan: the lists of a map, and the commands that draw into them.
+ghost use Rattle.std.specs.Prelude.{◌≡◌, IfOk};
+
 use lump_records::{Line, Sector, Side, Vertex};
 use map_commands::{Command, LineSplit};
 use map_plane::PlacedLine;
@@ -20,8 +22,10 @@ fn number_of(index: usize) -> u16 {
     u16::try_from(index).unwrap_or(u16::MAX)
 }
 
-// The vertices of a map.
-fn vertices_of(alloc: Global, map: &Map) -> Result<Vec<Vertex>, MapError> {
+/// The vertices of a map.
+pub(crate) fn vertices_of(alloc: Global, map: &Map) -> Result<Vec<Vertex>, MapError>
+    ensures { IfOk result (λ vertices. vertices.items ≡ map.now.tables.vertices) }
+{
     let mut vertices = Vec::with_capacity(alloc, map.count(Kind::Vertex) as usize)?;
     for n in 0..map.count(Kind::Vertex) {
         let vertex = map.vertex(n).unwrap();

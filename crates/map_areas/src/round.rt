@@ -1,65 +1,22 @@
 //! What is round a border before anything is drawn.
-ghost use Rattle.std.specs.Prelude.{IfErr};
+ghost use Rattle.std.specs.Prelude.{◌≡◌, IfErr};
+ghost use Rattle.map_areas.specs.Apart.{doubled};
 ghost use Rattle.map_areas.specs.Errors.{IsOfMap};
+ghost use Rattle.map_plane.specs.Places.{placed_lines};
 
-use crate::border::{Border, sum};
-use crate::drawing::number_of;
+use crate::border::Border;
 use crate::error::{AreaError, Part};
-use crate::plan::Plan;
-use lump_records::Vertex;
-use map_plane::{PlacedLine, is_on, nearest, sector_shown, spans_meet};
+use crate::ways::{Ground, sector_on_right, way};
 use map_tables::Map;
-
-// Whether the line runs in the direction from `from` to `to`, both of which lie on it.
-fn runs_with(line: &PlacedLine, from: Vertex, to: Vertex) -> bool {
-    if line.from.x != line.to.x {
-        (line.from.x < line.to.x) == (from.x < to.x)
-    } else {
-        (line.from.y < line.to.y) == (from.y < to.y)
-    }
-}
-
-// Whether both places lie on the line.
-fn is_along(line: &PlacedLine, from: Vertex, to: Vertex) -> bool {
-    spans_meet(line.from.x, line.to.x, from.x, from.x)
-        && spans_meet(line.from.y, line.to.y, from.y, from.y)
-        && is_on(line, from)
-        && is_on(line, to)
-}
-
-// The first line along which this part of the border runs.
-fn line_along(lines: &[PlacedLine], from: Vertex, to: Vertex) -> Option<PlacedLine> {
-    for line in lines {
-        if is_along(line, from, to) {
-            return Some(*line);
-        }
-    }
-    None
-}
-
-// What is there at a part of the border, on its right: what a line along it shows, else what its middle belongs to.
-fn sector_of_part(
-    map: &Map,
-    plan: &Plan,
-    lines: &[PlacedLine],
-    doubled: &[PlacedLine],
-    from: Vertex,
-    to: Vertex,
-) -> Option<u16> {
-    match line_along(lines, from, to) {
-        Some(line) => plan.faced(number_of(&line), runs_with(&line, from, to)),
-        None => sector_shown(map, &nearest(doubled, sum(from, to))?, sum(from, to)),
-    }
-}
 
 /// The sector that is there along the whole border, or the void. Refused if the parts differ.
 pub(crate) fn sector_round(
     map: &Map,
-    plan: &Plan,
-    lines: &[PlacedLine],
-    doubled: &[PlacedLine],
+    ground: &Ground,
     border: &Border,
 ) -> Result<Option<u16>, AreaError>
+    requires lines { ground.now.lines.items ≡ placed_lines map.now.tables }
+    requires doubled { ground.now.doubled.items ≡ doubled (placed_lines map.now.tables) }
     ensures refused { IfErr result IsOfMap }
 {
     let mut first: Option<Part> = None;
@@ -68,7 +25,7 @@ pub(crate) fn sector_round(
         let part = Part {
             from: *from,
             to,
-            sector: sector_of_part(map, plan, lines, doubled, *from, to),
+            sector: sector_on_right(map, ground, &way(*from, to)),
         };
         match first {
             Some(first) => {

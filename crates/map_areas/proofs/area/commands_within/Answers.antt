@@ -1,4 +1,4 @@
-use Rattle.std.proofs.Common.{◌≡◌, List, length, ◌∙◌, ap, refl, subst, sym}
+use Rattle.std.proofs.Common.{◌≡◌, List, ◌∙◌, ap, subst, sym}
 use Rattle.map_commands.specs.declared.command.Command.{Command}
 use Rattle.map_plane.specs.declared.places.PlacedLine.{PlacedLine}
 use Rattle.map_areas.specs.Apart.{doubled}
@@ -6,22 +6,24 @@ use Rattle.map_areas.specs.Drawn.{LeadTo}
 use Rattle.map_areas.proofs.Whole.{bordered_drawn, stays_drawn}
 use Rattle.map_areas.proofs.area.commands_within.Goals as goal
 
-pub returns-clause-stays : goal.returns-clause-stays
-returns-clause-stays c =
+pub returns-clause-area : goal.returns-clause-area
+returns-clause-area c =
     let m = c.args.map.now.tables in
-    let led =
-    subst (λ (cs : List Command). LeadTo m cs c.in_ok-new.new.tables) c.as_slice-all.ensures.value c.in_ok-new.ensures.taken in
+    let new = c.in_ok-new.new.tables in
+    let cs = c.into_commands-commands.result.items in
+    let es = c.args.edges.items in
+    let round = c.in_ok-round.round in
+    let led = subst (λ (ds : List Command). LeadTo m ds new) c.as_slice-all.ensures.value c.in_ok-new.ensures.taken in
     let border = c.in_ok-border.border in
     let edges = c.in_ok-border.ensures.edges in
+    let number = c.count-sectors.ensures.number in
     let twice : border.doubled.items ≡ doubled border.edges.items =
     c.in_ok-border.ensures.doubled ∙ ap (λ (ls : List PlacedLine). doubled ls) (sym edges) in
-    stays_drawn m c.in_ok-new.new.tables c.into_commands-commands.result.items c.args.edges.items border.edges.items border.doubled.items (length m.sectors)
-    led edges twice refl c.in_ok-new.ensures.stays c.in_ok-look_at.ensures.sides c.in_ok-look_at.ensures.lines c.in_ok-look_at.ensures.alone
-
-pub returns-clause-border : goal.returns-clause-border
-returns-clause-border c =
-    let m = c.args.map.now.tables in
-    let led =
-    subst (λ (cs : List Command). LeadTo m cs c.in_ok-new.new.tables) c.as_slice-all.ensures.value c.in_ok-new.ensures.taken in
-    bordered_drawn m c.in_ok-new.new.tables c.into_commands-commands.result.items c.args.edges.items c.in_ok-border.border.edges.items (length m.sectors)
-    led c.in_ok-border.ensures.edges c.in_ok-look_at.ensures.border
+    record {
+      round = round;
+      stays =
+          stays_drawn m new cs es border.edges.items border.doubled.items round c.count-sectors.result led edges twice number c.in_ok-new.ensures.stays
+          c.in_ok-look_at.ensures.sides c.in_ok-look_at.ensures.lines c.in_ok-look_at.ensures.alone;
+      border =
+          bordered_drawn m new cs es border.edges.items round c.count-sectors.result led edges number c.in_ok-look_at.ensures.border;
+    }

@@ -5,4 +5,4 @@ use Rattle.map_areas.proofs.bordered.find_bordered.Given as goal
 
 -- the edges so far are covered
 abbrev pub invariant-loop-edge : goal.invariant-loop-edge
-invariant-loop-edge l = All (IsCovered l.map.tables l.sector) (take l.edge-index l.border.edges.items)
+invariant-loop-edge l = All (IsCovered l.old.tables l.new.tables l.paint.round l.paint.sector) (take l.edge-index l.border.edges.items)

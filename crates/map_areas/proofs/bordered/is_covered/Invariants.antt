@@ -5,4 +5,5 @@ use Rattle.map_areas.proofs.bordered.is_covered.Given as goal
 -- what is left to be covered decides
 abbrev pub invariant-loop-place : goal.invariant-loop-place
 invariant-loop-place l =
-    is_covered l.map.tables l.sector l.fn.from l.to l.places ≡ is_covered l.map.tables l.sector l.at l.to (drop l.place-index l.places)
+    is_covered l.old.tables l.new.tables l.paint.round l.paint.sector l.edge.from l.edge.to l.places
+    ≡ is_covered l.old.tables l.new.tables l.paint.round l.paint.sector l.at l.edge.to (drop l.place-index l.places)

@@ -5,4 +5,4 @@ use Rattle.map_areas.proofs.kept.keeps_sides.Given as goal
 
 -- the sides so far
 abbrev pub invariant-loop-n : goal.invariant-loop-n
-invariant-loop-n l = (k : ℕ) → k < l.n → BecomesAt (BecomesSide l.sector) l.map.tables.sides l.new.tables.sides k
+invariant-loop-n l = (k : ℕ) → k < l.n → BecomesAt (BecomesSide l.round l.sector) l.map.tables.sides l.new.tables.sides k
