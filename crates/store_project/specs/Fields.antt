@@ -54,6 +54,7 @@ pub record IsProjectSound {D : Type 0} (facts : Ghosts D) (p : Inside D) : Type 
   pub framed : IsProjectFramed p
   pub ready : p.must_reopen ≡ false → IsReady facts p
 
--- the bytes are a group of the lines that these commands in range are
-abbrev pub AreLinesOf : List ProjectCommand → List ℕ → Type 0
-AreLinesOf commands bytes = IsGroupOf (map project_spelling commands) bytes × All InProjectRange commands
+-- the bytes are a group of the lines that these commands are, which are in range
+abbrev pub IsGroupOfCommands : List ProjectCommand → List ℕ → Type 0
+IsGroupOfCommands commands bytes =
+    IsGroupOf (map project_spelling commands) bytes × All InProjectRange commands

@@ -34,9 +34,9 @@ impl Model for ProjectGroup {
 
     ghost view = { λ group. record { maps = group.maps; bytes = group.lines } };
 
-    ghost use Rattle.store_project.specs.Fields.{AreLinesOf};
+    ghost use Rattle.store_project.specs.Fields.{IsGroupOfCommands};
 
-    ghost invariant = { λ group. AreLinesOf group.commands.items group.lines };
+    ghost invariant = { λ group. IsGroupOfCommands group.commands.items group.lines };
 }
 
 impl ProjectGroup {

@@ -1,4 +1,4 @@
-use Rattle.std.proofs.Common.{◌≡◌, false, sym, ◌∙◌}
+use Rattle.std.proofs.Common.{sym, ◌∙◌}
 use Rattle.std.proofs.lemmas.List.Elements.{All-get_or}
 use Rattle.map_commands.specs.ProjectCommands.{InProjectRange}
 use Rattle.map_tables.specs.Projects.{project_of}

@@ -1,4 +1,4 @@
-use Rattle.std.proofs.Common.{◌≡◌, List, ℕ, sym, ap, subst}
+use Rattle.std.proofs.Common.{◌≡◌, List, ℕ, sym, subst}
 use Rattle.std.specs.Prelude.{map}
 use Rattle.map_tables.specs.Projects.{MapsView, project_of}
 use Rattle.map_commands.specs.ProjectCommands.{project_spelling}
