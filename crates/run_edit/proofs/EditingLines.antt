@@ -1,6 +1,6 @@
 -- The answer to a line over a project, by what the line is; a long line is answered as its front.
-use Rattle.std.proofs.Common.{◌≡◌, inl, inr, ℕ, ◌<◌, ◌≤◌, Bool, true, false, List, Option, Some, None, Result, Ok, Err, length, take, refl, ap, subst, arith}
-use Rattle.std.specs.Prelude.{MatchOption, nat_lt}
+use Rattle.std.proofs.Common.{◌≡◌, ◌⊎◌, inl, inr, ℕ, ◌<◌, ◌≤◌, Bool, true, false, List, Option, Some, None, Result, Ok, Err, length, take, refl, ap, subst, arith}
+use Rattle.std.specs.Prelude.{MatchOption, is_some, nat_lt}
 use Rattle.std.specs.Option.{option_map}
 use Rattle.std.proofs.lemmas.Bool.{ltb-false, ltb-true}
 use Rattle.std.proofs.lemmas.List.{take_all, length-take-le}
@@ -142,3 +142,15 @@ query_untold m maps q e u w same ready none =
       | inl told ↦ (told.0, query_told m maps q told.0 same ready told.1)
       | inr takes ↦ (refused_text 31, inr ((ready, takes), refl))
     ]
+
+-- a query leaves the project as it is
+pub query_stays : {D : Type 0} (facts : Ghosts D) (old new : State D) (line text : List ℕ) (found : Option Query) → found ≡ option_map (λ q. q.1) (query_of line) → is_some found ≡ true
+    → RepliesInProject facts old line text new → new ≡ old
+query_stays facts old new line text found is some replies = go (query_of line) found is some replies
+  where
+    go : (o : Option (List ℕ × Query)) (found : Option Query) → found ≡ option_map (λ q. q.1) o → is_some found ≡ true
+        → MatchOption o (IsTold facts old line text new) (λ q. AnswersQuery (told_of old) q.1 text × (new ≡ old)) ⊎ ((MatchOption o ⊥ (λ q. MayLack (told_of old) q.1) × (new ≡ old)) × (text ≡ refused_text 31))
+        → new ≡ old
+    go None found is some replies = cc
+    go (Some q) found is some (inl (told, same)) = same
+    go (Some q) found is some (inr ((lacks, same), lacking)) = same

@@ -1,6 +1,6 @@
 -- One stretch of a run after another.
 use Rattle.std.proofs.Common.{◌≡◌, ℕ, zero, suc, List, [], ◌∷◌, ◌++◌, false, refl, sym, ◌∙◌, ap, subst, arith, ◌+◌, ◌≤◌, ◌*◌, length, length-append, take, ◌<◌, append_assoc, append-nil}
-use Rattle.std.specs.Prelude.{Option, Some, None, Result, Ok, Err, MatchResult}
+use Rattle.std.specs.Prelude.{Option, Some, None, Result, Ok, Err, MatchResult, OnOk}
 use Rattle.std.specs.List.{list_any}
 use Rattle.std.specs.Io.KnownBytes.{Appends, Consumes, IsAtEnd, Keeps}
 use Rattle.run_edit.specs.Runs.{AnswersLine, Answered, EndsTaking, Exchange, Feeds, Ran, TakesLines, lines_in, none_waits, output_of}
@@ -149,6 +149,15 @@ module _ {S : Type 0} (goes : S → List Exchange → S → Type 0) (then_more :
   weaker waits waits' (Err OutOfMemory) old new lines u w more (trace, went, never) = absurd never
   weaker waits waits' (Err InputTooLong) old new lines u w more (trace, went, never) = absurd never
   weaker waits waits' (Err ReaderFailed) old new lines u w more (trace, went, never) = absurd never
+
+  -- the same where none waits
+  pub none_left : {U : Type 0} (waits : List (List ℕ) → Type 0) (r : Result U EditorError) (old new : S) (lines : List (List ℕ)) (u w : Option (List ℕ))
+      → OnOk r (waits []) → TakesLines goes none_waits r old new lines u w → TakesLines goes waits r old new lines u w
+  none_left waits (Ok x) old new lines u w left (trace, went, (behind, none, is, wrote)) = (trace, went, (behind, subst waits (sym none) left, is, wrote))
+  none_left waits (Err WriterFailed) old new lines u w left taken = taken
+  none_left waits (Err OutOfMemory) old new lines u w left (trace, went, never) = absurd never
+  none_left waits (Err InputTooLong) old new lines u w left (trace, went, never) = absurd never
+  none_left waits (Err ReaderFailed) old new lines u w left (trace, went, never) = absurd never
 
   -- a call that failed so, whatever it would have returned
   pub lost : (U V : Type 0) (waits waits' : List (List ℕ) → Type 0) (old new : S) (lines : List (List ℕ)) (e : EditorError) (u w : Option (List ℕ)) → TakesLines {U = U} goes waits (Err e) old new lines u w

@@ -1,7 +1,8 @@
 -- A line that is decided behind those that wait.
-use Rattle.std.proofs.Common.{◌≡◌, ◌∙◌, ◌⊎◌, inl, inr, ℕ, ◌<◌, ◌≤◌, Bool, true, false, List, [], ◌∷◌, ◌++◌, Option, Some, None, Result, Ok, Err, length, take, refl, sym, ap, subst, arith}
-use Rattle.std.specs.Prelude.{is_some, map, nat_lt}
-use Rattle.std.proofs.lemmas.Bool.{cases_Bool, ltb-false, ltb-true}
+use Rattle.std.proofs.Common.{◌≡◌, ◌∙◌, ◌⊎◌, inl, inr, ℕ, ◌<◌, ◌≤◌, Bool, true, false, ◌||◌, List, [], ◌∷◌, ◌++◌, Option, Some, None, Result, Ok, Err, length, take, refl, sym, ap, subst, arith}
+use Rattle.std.specs.Prelude.{IfSome, is_ok, is_some, map, nat_lt}
+use Rattle.std.specs.List.{list_any}
+use Rattle.std.proofs.lemmas.Bool.{cases_Bool, ltb-false, ltb-true, true≢false}
 use Rattle.std.proofs.lemmas.List.{length-take-le, map-append, take_all}
 use Rattle.map_tables.specs.Projects.{ProjectMaps, project_of}
 use Rattle.map_commands.specs.Errors as commands
@@ -12,7 +13,7 @@ use Rattle.store_project.specs.Refusals.{code_of}
 use Rattle.store_project.specs.States.{State}
 use Rattle.store_project.specs.declared.error.ProjectError.{ProjectError}
 use Rattle.store_project.specs.declared.error.ProjectError.TheVariants.{Device, OutOfMemory, Reopen, GenerationsSpent, Refused, Damaged, Blank, NotAProject, NotEmpty, BadGeometry}
-use Rattle.run_edit.specs.Groups.{Decided, Decides, DecidesAll, IsWaiting, Waits, staged_before, staged_of}
+use Rattle.run_edit.specs.Groups.{Decided, Decides, DecidesAll, IsEmptyFor, IsWaiting, Waits, staged_before, staged_of}
 use Rattle.run_edit.specs.Queries.{query_of}
 use Rattle.run_edit.specs.declared.batch.Batch.{Batch}
 use Rattle.run_edit.proofs.LongLines.{long-accepts, long-fault, long-query, long-refused, refused-long}
@@ -147,3 +148,32 @@ begun_waiting project group outcomes None lines none same empty can ready = reco
   leads = can.accepted;
 }
 begun_waiting project group outcomes (Some batch) lines none same empty can ready = cc
+
+-- ---- None
+
+none_staged : (ds : List Decided) → list_any is_ok (map (λ (d : Decided). d.outcome) ds) ≡ false → staged_of ds ≡ []
+none_staged [] none = refl
+none_staged (d ∷ ds) none = go (λ any. none_staged ds any) d.outcome none
+  where
+    go : (list_any is_ok (map (λ (d : Decided). d.outcome) ds) ≡ false → staged_of ds ≡ []) → (outcome : Result ℕ ℕ) → (is_ok outcome || list_any is_ok (map (λ (d : Decided). d.outcome) ds)) ≡ false
+        → staged_before d.line outcome (staged_of ds) ≡ []
+    go behind (Ok n) any = absurd (true≢false any)
+    go behind (Err code) any = behind any
+
+-- a group of lines that were all refused is empty
+pub refused_empty : {D : Type 0} (project : State D) (batch : Batch) (lines : List (List ℕ)) (group : GroupState) → batch.group ≡ group → (waits : IsWaiting project batch lines)
+    → list_any is_ok (map (λ (d : Decided). d.outcome) waits.decided) ≡ false → IsEmptyFor project group
+refused_empty project batch lines group same waits none = (
+  waits.ready,
+  subst (λ (g : GroupState). CanPut project g []) same (subst (λ (staged : List Staged). CanPut project batch.group staged) (none_staged waits.decided none) waits.can),
+)
+
+pub some_empty : {D : Type 0} (project : State D) (left : Option GroupState) → project.must_reopen ≡ false → IfSome left (λ (g : GroupState). CanPut project g []) → IfSome left (IsEmptyFor project)
+some_empty project None ready can = tt
+some_empty project (Some g) ready can = (ready, can)
+
+-- no line waits in a batch over it
+pub empty_waits : {D : Type 0} (project : State D) (batch : Batch) (group : GroupState) → batch.group ≡ group → batch.outcomes ≡ [] → IsEmptyFor project group → Waits project (Some batch) []
+empty_waits project batch group same none (ready, can) =
+    let here : CanPut project batch.group [] = subst (λ (g : GroupState). CanPut project g []) (sym same) can in
+    record { ready = ready; decided = []; asked = refl; outcomes = sym none; can = here; leads = here.accepted }

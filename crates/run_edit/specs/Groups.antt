@@ -2,7 +2,7 @@
 use Rattle.std.specs.Prelude.{◌≡◌, false, ℕ, List, [], ◌∷◌, ◌++◌, map, Option, Some, None, Result, Ok, Err}
 use Rattle.map_tables.specs.Projects.{ProjectMaps, project_of}
 use Rattle.map_commands.specs.ProjectLines.{Accepts}
-use Rattle.store_project.specs.Groups.{CanPut, RefusesStage, Staged}
+use Rattle.store_project.specs.Groups.{CanPut, GroupState, RefusesStage, Staged}
 use Rattle.store_project.specs.Refusals.{code_of}
 use Rattle.store_project.specs.States.{State}
 use Rattle.store_project.specs.declared.error.ProjectError.{ProjectError}
@@ -91,6 +91,10 @@ pub record IsWaiting {D : Type 0} (project : State D) (batch : Batch) (lines : L
   pub outcomes : map (λ d. d.outcome) decided ≡ batch.outcomes
   pub can : CanPut project batch.group (staged_of decided)
   pub leads : DecidesAll project.cap (project_of project.maps) decided (project_of batch.group.maps)
+
+-- the group is empty, and the project needn't be opened again
+abbrev pub IsEmptyFor : {D : Type 0} → State D → GroupState → Type 0
+IsEmptyFor project group = (project.must_reopen ≡ false) × CanPut project group []
 
 -- these lines wait, if any do
 abbrev pub Waits : {D : Type 0} → State D → Option Batch → List (List ℕ) → Type 0

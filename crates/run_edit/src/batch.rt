@@ -19,6 +19,15 @@ pub struct Batch {
 impl Batch {
     ghost use Rattle.run_edit.specs.Groups.{IsWaiting};
 
+    /// No line, over a group.
+    pub fn over(group: ProjectGroup) -> Batch
+        ensures group { result.group ≡ group }
+        ensures outcomes { result.outcomes ≡ [] }
+    {
+        let outcomes = Outcomes::new();
+        Batch { group, outcomes }
+    }
+
     // Decides a line behind the others, if there is room for it and its outcome.
     fn stage<D: Disk>(&mut self, project: &Project<D>, line: &[u8]) -> bool
         requires group { IsGroupFor project.now self.old.group }
@@ -55,8 +64,7 @@ fn begin<D: Disk>(project: &Project<D>, waiting: &mut Option<Batch>)
         return;
     }
     if let Ok(group) = project.begin_group() {
-        let outcomes = Outcomes::new();
-        *waiting = Some(Batch { group, outcomes });
+        *waiting = Some(Batch::over(group));
     }
 }
 

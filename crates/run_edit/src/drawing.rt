@@ -124,7 +124,7 @@ impl Session for Drawing {
         answer_line(alloc, self, line, writer)
     }
 
-    fn settle<W: Write>(&mut self, _waiting: (), _writer: &mut W) -> Result<(), EditorError> {
+    fn settle<W: Write>(&mut self, _waiting: &mut (), _writer: &mut W) -> Result<(), EditorError> {
         Ok(())
     }
 

@@ -1,10 +1,10 @@
 //! A run over a project file: the session of `edit`. The commands of a turn go to the disk together.
-ghost use Rattle.std.specs.Prelude.{◌≡◌, ℕ, List, is_ok};
+ghost use Rattle.std.specs.Prelude.{◌≡◌, ◌≤◌, ℕ, List, [], IfOk, IfSome, is_ok, length, take};
 ghost use Rattle.std.specs.List.{list_any};
 ghost use Rattle.store_project.specs.Groups.{IsGroupFor};
-ghost use Rattle.run_edit.specs.Editing.{told_of};
-ghost use Rattle.run_edit.specs.Groups.{IsWaiting, Waits, exchanges, as_answered};
-ghost use Rattle.run_edit.specs.Runs.{Exchange, IsTrace, Ran, TakesLines, none_waits};
+ghost use Rattle.run_edit.specs.Editing.{RepliesInProject, told_of};
+ghost use Rattle.run_edit.specs.Groups.{IsEmptyFor, IsWaiting, Waits, exchanges, as_answered};
+ghost use Rattle.run_edit.specs.Runs.{AnswersLine, Exchange, IsTrace, Ran, TakesLines, none_waits};
 ghost use Rattle.run_edit.specs.Sessions.{GoesOver, RunsOver};
 ghost use Rattle.run_edit.specs.Told.{RepliesTold};
 ghost use Rattle.run_edit.specs.Composing.{goes_none, goes_behind};
@@ -13,6 +13,7 @@ use crate::batch::{Batch, hold, is_full};
 use crate::editing::answer_line;
 use crate::error::EditorError;
 use crate::fate::{Fate, write_settled};
+use crate::query::read_query;
 use crate::reading::run_lines;
 use crate::session::Session;
 use std::alloc::Global;
@@ -27,42 +28,76 @@ fn any_accepted(outcomes: &[Result<u32, u16>]) -> bool
     outcomes.iter().any(|outcome| outcome.is_ok())
 }
 
-// Puts the group of lines with these outcomes on the disk, if any of them was accepted.
+// Puts the group of lines with these outcomes on the disk, if any of them was accepted. An empty group is left behind
+// them, if there is memory for it.
 fn put<D: Disk>(
     project: &mut Project<D>,
     group: ProjectGroup,
     outcomes: &[Result<u32, u16>],
-) -> Fate
+) -> (Fate, Option<ProjectGroup>)
     requires { IsGroupFor project.old group }
-    ensures { (batch : Batch) (lines : List (List ℕ)) → batch.group ≡ group
+    ensures goes { (batch : Batch) (lines : List (List ℕ)) → batch.group ≡ group
         → batch.outcomes ≡ outcomes.now → (waits : IsWaiting project.old batch lines)
-        → GoesOver D.Disk project.old (exchanges (as_answered result waits.decided)) project.new }
+        → GoesOver D.Disk project.old (exchanges (as_answered result.0 waits.decided)) project.new }
+    ensures left { (batch : Batch) (lines : List (List ℕ)) → batch.group ≡ group
+        → batch.outcomes ≡ outcomes.now → IsWaiting project.old batch lines
+        → IfSome result.1 (IsEmptyFor project.new) }
 {
-    if any_accepted(outcomes) {
-        match project.put(group) {
-            Ok(()) => Fate::Kept,
-            Err(_) => Fate::Lost,
-        }
-    } else {
-        Fate::Kept
+    if !any_accepted(outcomes) {
+        return (Fate::Kept, Some(group));
+    }
+    match project.put_and_begin(group) {
+        Ok(left) => (Fate::Kept, left),
+        Err(_) => (Fate::Lost, None),
     }
 }
 
-// Puts the lines of a batch on the disk, and writes their answers.
+// Puts the lines of a batch on the disk, writes their answers, and may return a batch in which none waits.
 fn settle_batch<D: Disk, W: Write>(
     project: &mut Project<D>,
     batch: Batch,
     writer: &mut W,
-) -> Result<(), EditorError>
+) -> Result<Option<Batch>, EditorError>
     requires { IsGroupFor project.old batch.group }
-    ensures { (lines : List (List ℕ)) → IsWaiting project.old batch lines
+    ensures taken { (lines : List (List ℕ)) → IsWaiting project.old batch lines
         → TakesLines (GoesOver D.Disk) none_waits result project.old project.new lines
         (W.contents writer.old) (W.contents writer.new) }
+    ensures left { (lines : List (List ℕ)) → IsWaiting project.old batch lines
+        → IfOk result (λ waiting. Waits project.new waiting []) }
 {
     let Batch { group, outcomes } = batch;
     let decided = outcomes.as_slice();
-    let fate = put(project, group, decided);
-    write_settled(fate, decided, writer)
+    let (fate, left) = put(project, group, decided);
+    match write_settled(fate, decided, writer) {
+        Ok(()) => {}
+        Err(error) => return Err(error),
+    }
+    match left {
+        Some(group) => Ok(Some(Batch::over(group))),
+        None => Ok(None),
+    }
+}
+
+// Answers a line at once. An empty group is kept only behind a query, which leaves the project as it is.
+fn answer_alone<D: Disk, W: Write>(
+    alloc: Global,
+    project: &mut Project<D>,
+    waiting: &mut Option<Batch>,
+    line: &[u8],
+    writer: &mut W,
+) -> Result<(), EditorError>
+    requires none { Waits project.old waiting.old [] }
+    requires short { length line.now ≤ 257 }
+    ensures answered { (whole : List ℕ) → line.now ≡ take 257 whole
+        → AnswersLine (RepliesInProject D.Disk) result project.old project.new whole
+        (W.contents writer.old) (W.contents writer.new) }
+    ensures left { Waits project.new waiting.new [] }
+{
+    if read_query(line).is_some() {
+        return answer_line(alloc, project, line, writer);
+    }
+    *waiting = None;
+    answer_line(alloc, project, line, writer)
 }
 
 impl<D: Disk> Session for Project<D> {
@@ -86,13 +121,13 @@ impl<D: Disk> Session for Project<D> {
     ) -> Result<(), EditorError> {
         if hold(self, waiting, line, may_wait) {
             if is_full(waiting) {
-                self.settle(waiting.take(), writer)
+                self.settle(waiting, writer)
             } else {
                 Ok(())
             }
         } else {
-            match self.settle(waiting.take(), writer) {
-                Ok(()) => answer_line(alloc, self, line, writer),
+            match self.settle(waiting, writer) {
+                Ok(()) => answer_alone(alloc, self, waiting, line, writer),
                 Err(error) => Err(error),
             }
         }
@@ -100,11 +135,17 @@ impl<D: Disk> Session for Project<D> {
 
     fn settle<W: Write>(
         &mut self,
-        waiting: Option<Batch>,
+        waiting: &mut Option<Batch>,
         writer: &mut W,
     ) -> Result<(), EditorError> {
-        match waiting {
-            Some(batch) => settle_batch(self, batch, writer),
+        match waiting.take() {
+            Some(batch) => match settle_batch(self, batch, writer) {
+                Ok(left) => {
+                    *waiting = left;
+                    Ok(())
+                }
+                Err(error) => Err(error),
+            },
             None => Ok(()),
         }
     }

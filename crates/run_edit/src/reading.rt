@@ -76,9 +76,10 @@ fn take_alone<S: Session, W: Write>(
 {
     let mut waiting = S::none_waiting();
     match session.take(alloc, &mut waiting, line, false, writer) {
-        Ok(()) => session.settle(waiting, writer),
-        Err(error) => Err(error),
+        Ok(()) => {}
+        Err(error) => return Err(error),
     }
+    session.settle(&mut waiting, writer)
 }
 
 // TakesLines one byte: LF ends the line, which is taken; any other byte is appended to it.
@@ -145,17 +146,19 @@ fn feed<S: Session, W: Write>(
 fn take_turn<S: Session, W: Write>(
     alloc: Global,
     session: &mut S,
+    waiting: &mut S::Waiting,
     line: &mut InputLine,
     bytes: &[u8],
     writer: &mut W,
 ) -> Result<u64, EditorError>
+    requires { S.waits session.old waiting.old [] }
     ensures feeds { (part : List ℕ) → IsBegun line.old part
         → Feeds S.goes none_waits result session.old session.new
         [] part bytes.now line.new (W.contents writer.old) (W.contents writer.new) }
+    ensures left { OnOk result (S.waits session.new waiting.new []) }
     ensures few { IfOk result (λ n. n ≤ length bytes.now) }
 {
-    let mut waiting = S::none_waiting();
-    let count = match feed(alloc, session, &mut waiting, line, bytes, writer) {
+    let count = match feed(alloc, session, waiting, line, bytes, writer) {
         Ok(count) => count,
         Err(error) => return Err(error),
     };
@@ -183,6 +186,7 @@ pub fn run_lines<S: Session, R: Read, W: Write>(
         (W.contents writer.old) (W.contents writer.new) }
 {
     let mut line = InputLine::new();
+    let mut waiting = S::none_waiting();
     let mut answered: u64 = 0;
     let mut buffer = [0; 4096];
     for _ in 0..turns {
@@ -196,7 +200,8 @@ pub fn run_lines<S: Session, R: Read, W: Write>(
                 Err(error) => return Err(error),
             }
         }
-        match take_turn(alloc, session, &mut line, &buffer[..count], writer) {
+        let bytes = &buffer[..count];
+        match take_turn(alloc, session, &mut waiting, &mut line, bytes, writer) {
             Ok(more) => answered += more,
             Err(error) => return Err(error),
         }

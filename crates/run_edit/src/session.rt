@@ -1,5 +1,5 @@
 //! What a run works on: the trait that maps in memory and project files implement.
-ghost use Rattle.std.specs.Prelude.{◌≡◌, ◌≤◌, ◌++◌, ◌∷◌, [], ℕ, List, length, take};
+ghost use Rattle.std.specs.Prelude.{◌≡◌, ◌≤◌, ◌++◌, ◌∷◌, [], ℕ, List, OnOk, length, take};
 ghost use Rattle.run_edit.specs.Runs.{Exchange, TakesLines, none_waits};
 
 use crate::error::EditorError;
@@ -42,20 +42,21 @@ pub trait Session {
             → TakesLines goes (waits self.new waiting.new) result self.old self.new
             (lines ++ whole ∷ []) (W.contents writer.old) (W.contents writer.new) };
 
-    /// Answers the lines that wait.
+    /// Answers the lines that wait. Then none waits.
     ///
     /// # Errors
     ///
     /// Only `WriterFailed`.
     fn settle<W: Write>(
         &mut self,
-        waiting: Self::Waiting,
+        waiting: &mut Self::Waiting,
         writer: &mut W,
     ) -> Result<(), EditorError>
-        requires { (lines : List (List ℕ)) × waits self.old waiting lines }
-        ensures { (lines : List (List ℕ)) → waits self.old waiting lines
+        requires { (lines : List (List ℕ)) × waits self.old waiting.old lines }
+        ensures taken { (lines : List (List ℕ)) → waits self.old waiting.old lines
             → TakesLines goes none_waits result self.old self.new lines
-            (W.contents writer.old) (W.contents writer.new) };
+            (W.contents writer.old) (W.contents writer.new) }
+        ensures left { OnOk result (waits self.new waiting.new []) };
 
     // No line leads nowhere.
     ghost none: { (session : Self) → goes session [] session };

@@ -1,5 +1,5 @@
 -- The lines of a group, and what one more makes of it.
-use Rattle.std.proofs.Common.{◌≡◌, ◌≤◌, ◌+◌, ◌-◌, ℕ, false, List, [], ◌∷◌, ◌++◌, length, length-append, refl, sym, subst, arith}
+use Rattle.std.proofs.Common.{◌≡◌, ◌≤◌, ◌+◌, ◌-◌, ℕ, false, List, [], ◌∷◌, ◌++◌, length, length-append, refl, sym, ap, subst, arith}
 use Rattle.std.proofs.lemmas.List.{map-append}
 use Rattle.store_disk.specs.Moments.{LeavesOnly}
 use Rattle.store_disk.specs.Stops.{From, Follows}
@@ -10,7 +10,7 @@ use Rattle.store_journal.specs.Records.{record_bytes, records_bytes}
 use Rattle.store_journal.specs.State.{IsAbove, IsReadyIn, JournalState}
 use Rattle.store_journal.proofs.Groups.{length-group}
 use Rattle.store_journal.proofs.Lengths.{length-push, length-record}
-use Rattle.map_tables.specs.Projects.{ProjectMaps, body_len, project_of}
+use Rattle.map_tables.specs.Projects.{MapsView, ProjectMaps, body_len, project_of}
 use Rattle.map_commands.specs.ProjectLines.{Accepts, Leads}
 use Rattle.store_project.specs.Fields.{IsProjectFramed, IsProjectSound, IsReady, project_state}
 use Rattle.store_project.specs.Groups.{AcceptsAll, CanPut, GroupState, IsFullFor, IsGroupFor, Staged, staged_lines}
@@ -77,12 +77,12 @@ module _ {D : Type 0} (facts : Ghosts D) (p : Inside D) (framed : IsProjectFrame
   leads : Leads (cap_of p.geometry) (project_of p.maps) lines (project_of group.maps)
   leads = leads_all (cap_of p.geometry) (project_of p.maps) can.0 (project_of group.maps) can.1.accepted
 
-  pub sound_put : (new : D) (j : JournalState) (end : ℕ)
+  pub sound_put : (new : D) (j : JournalState) (end : ℕ) (maps : MapsView) → maps ≡ group.maps
       → ((more : List (List ℕ)) → IsGroupOf more group.bytes → Follows (Appends p.journal.area more) (facts.may_leave p.disk) (facts.may_leave new))
       → j ≡ record p.journal { next = end; must_reopen = false } → IsReadyIn j (facts.may_leave new)
-      → IsProjectSound facts (record p { disk = new; journal = j; maps = group.maps })
-  sound_put new j end appends journal_is ends =
-      sound_recorded facts p framed ready new j end group.maps lines (project_of group.maps) leads refl
+      → IsProjectSound facts (record p { disk = new; journal = j; maps = maps })
+  sound_put new j end maps maps_are appends journal_is ends =
+      sound_recorded facts p framed ready new j end maps lines (project_of group.maps) leads (ap (λ (m : MapsView). project_of m) maps_are)
       (all_fit (cap_of p.geometry) (project_of p.maps) can.0 (project_of group.maps) framed.fits can.1.accepted)
       (appends lines can.1.lines) journal_is ends
 

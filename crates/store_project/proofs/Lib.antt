@@ -18,3 +18,4 @@ pub mod Reopening
 pub mod Excluding
 pub mod LineFaults
 pub mod Grouping
+pub mod Catching

@@ -11,7 +11,7 @@ use Rattle.map_commands.specs.declared.project.command.ProjectCommand.{ProjectCo
 use Rattle.map_commands.specs.declared.error.CommandError.{CommandError}
 use Rattle.map_commands.proofs.ProjectWords.{project_spelling-one}
 use Rattle.map_commands.specs.ProjectLines.{LeadsTo}
-use Rattle.store_project.specs.Refusals.{code_of, IsRefusalOf}
+use Rattle.store_project.specs.Refusals.{IsRefusalOf}
 use Rattle.store_project.specs.declared.error.ProjectError.{ProjectError}
 use Rattle.store_project.specs.declared.error.ProjectError.TheVariants.{Device, OutOfMemory, GenerationsSpent, Refused}
 use Rattle.store_project.proofs.Endings.{split}

@@ -1,11 +1,14 @@
 -- What the fields of a project tell of, and what they keep.
-use Rattle.std.specs.Prelude.{◌≡◌, ◌≤◌, false}
+use Rattle.std.specs.Prelude.{◌≡◌, ◌≤◌, ℕ, List, false, All, map}
 use Rattle.store_disk.specs.Stops.{Each}
 use Rattle.store_disk.specs.declared.disk.Disk.{Ghosts}
+use Rattle.store_journal.specs.Groups.{IsGroupOf}
 use Rattle.store_journal.specs.Records.{EndsAt}
 use Rattle.store_journal.specs.State.{room_of}
 use Rattle.store_slots.specs.Handles.{first_area, second_of, slot_of, generation_of, HasSomeSlots}
 use Rattle.map_tables.specs.Projects.{body_len, project_of}
+use Rattle.map_commands.specs.ProjectCommands.{InProjectRange, project_spelling}
+use Rattle.map_commands.specs.declared.project.command.ProjectCommand.{ProjectCommand}
 use Rattle.store_project.specs.Places.{IsAllowed, AreLaidOut, cap_of, which_parts}
 use Rattle.store_project.specs.Stands.{HasGeometry, StandsAt}
 use Rattle.store_project.specs.States.{State}
@@ -50,3 +53,8 @@ pub record IsReady {D : Type 0} (facts : Ghosts D) (p : Inside D) : Type 0 where
 pub record IsProjectSound {D : Type 0} (facts : Ghosts D) (p : Inside D) : Type 0 where
   pub framed : IsProjectFramed p
   pub ready : p.must_reopen ≡ false → IsReady facts p
+
+-- the bytes are a group of the lines that these commands are, which are in range
+abbrev pub IsGroupOfCommands : List ProjectCommand → List ℕ → Type 0
+IsGroupOfCommands commands bytes =
+    IsGroupOf (map project_spelling commands) bytes × All InProjectRange commands

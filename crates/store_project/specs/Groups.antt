@@ -86,7 +86,7 @@ RefusesToPut facts _ old new = ⊥
 
 -- how a `put` of lines that lead to these maps ended: they are the project's, or it was refused with
 -- the maps as they were
-abbrev pub EndsPut : {D : Type 0} → Ghosts D → Result Unit ProjectError → State D → State D
+abbrev pub EndsPut : {D T : Type 0} → Ghosts D → Result T ProjectError → State D → State D
     → ProjectMaps → Type 0
 EndsPut facts (Ok _) old new maps = (old.must_reopen ≡ false) × (new.must_reopen ≡ false)
     × (project_of new.maps ≡ maps) × (new.generation ≡ old.generation)

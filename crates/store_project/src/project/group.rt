@@ -1,16 +1,20 @@
 //! Groups of commands: each is decided at once, and all of them go to the disk by one call.
-ghost use Rattle.std.specs.Prelude.{◌≡◌, ◌⊎◌, ◌↔◌, ◌+◌, [], false, true, IfOk, IfErr, IsErrOf};
+ghost use Rattle.std.specs.Prelude.{◌≡◌, ◌≤◌, ◌⊎◌, ◌↔◌, ◌+◌, ◌++◌, ◌∷◌, ℕ, List, [], false, true, All, map, length, IfOk, IfErr, IfSome, IsErrOf, OnErr, OnOk};
 ghost use Rattle.store_disk.specs.Moments.{LeavesOnly};
+ghost use Rattle.store_journal.specs.Groups.{IsGroupOf};
 ghost use Rattle.store_journal.specs.State.{IsAbove};
-ghost use Rattle.map_tables.specs.Projects.{project_of};
+ghost use Rattle.map_tables.specs.Projects.{body_len, project_of};
+ghost use Rattle.map_commands.specs.ProjectCommands.{InProjectRange, project_spelling};
+ghost use Rattle.map_commands.specs.ProjectLines.{Leads};
 
 use crate::ProjectError;
 use crate::error::refusal_of;
 use crate::project::Project;
-use map_commands::{commit, parse, ready};
+use map_commands::{ProjectCommand, apply, commit, parse, ready};
 use map_tables::Maps;
 use std::alloc::{AllocError, Global};
 use std::marker::Model;
+use std::mem;
 use store_disk::Disk;
 use store_journal::{Group, JournalError};
 
@@ -20,6 +24,7 @@ use store_journal::{Group, JournalError};
 pub struct ProjectGroup {
     maps: Maps,
     lines: Group,
+    commands: Vec<ProjectCommand>,
 }
 
 impl Model for ProjectGroup {
@@ -28,6 +33,10 @@ impl Model for ProjectGroup {
     ghost Value = { GroupState };
 
     ghost view = { λ group. record { maps = group.maps; bytes = group.lines } };
+
+    ghost use Rattle.store_project.specs.Fields.{IsGroupOfCommands};
+
+    ghost invariant = { λ group. IsGroupOfCommands group.commands.items group.lines };
 }
 
 impl ProjectGroup {
@@ -37,6 +46,76 @@ impl ProjectGroup {
     {
         &self.maps
     }
+
+    // No lines, over these maps.
+    fn over(alloc: Global, maps: Maps) -> Result<ProjectGroup, AllocError>
+        ensures lines { IfOk result (λ group. IsGroupOf [] group.bytes) }
+        ensures maps { IfOk result (λ group. group.maps ≡ maps) }
+    {
+        let lines = Group::new(alloc)?;
+        let commands = Vec::new(alloc);
+        Ok(ProjectGroup {
+            maps,
+            lines,
+            commands,
+        })
+    }
+
+    // Adds a command and the line that it is.
+    fn push(&mut self, line: &[u8], command: ProjectCommand) -> Result<(), AllocError>
+        requires line { line.now ≡ project_spelling command }
+        requires range { InProjectRange command }
+        requires short { length line.now ≤ 256 }
+        ensures pushed { OnOk result ((lines : List (List ℕ)) → IsGroupOf lines self.old.bytes
+            → IsGroupOf (lines ++ line.now ∷ []) self.new.bytes) }
+        ensures stays { OnErr result (self.new.bytes ≡ self.old.bytes) }
+        ensures maps { self.new.maps ≡ self.old.maps }
+    {
+        self.commands.push(command)?;
+        match self.lines.push(line) {
+            Ok(()) => Ok(()),
+            Err(error) => {
+                let _ = self.commands.pop();
+                Err(error)
+            }
+        }
+    }
+
+    // A group of no lines over the maps that this one's lead to after its lines. `None` if there is no memory for it.
+    fn caught_up(self, alloc: Global, cap: u32) -> Option<ProjectGroup>
+        requires { body_len (project_of self.maps) ≤ cap }
+        ensures lines { IfSome result (λ group. IsGroupOf [] group.bytes) }
+        ensures led { IfSome result (λ group. (lines : List (List ℕ)) → IsGroupOf lines self.bytes
+            → Leads cap (project_of self.maps) lines (project_of group.maps)) }
+    {
+        let ProjectGroup {
+            mut maps,
+            lines: _lines,
+            commands,
+        } = self;
+        if !replay(&mut maps, &commands, cap) {
+            return None;
+        }
+        match ProjectGroup::over(alloc, maps) {
+            Ok(group) => Some(group),
+            Err(_) => None,
+        }
+    }
+}
+
+// Does commands in turn. False if there was no memory for one of them, or one was refused.
+fn replay(maps: &mut Maps, commands: &[ProjectCommand], cap: u32) -> bool
+    requires range { All InProjectRange commands.now }
+    requires fits { body_len (project_of maps.old) ≤ cap }
+    ensures { result ≡ true → Leads cap (project_of maps.old) (map project_spelling commands.now)
+        (project_of maps.new) }
+{
+    for command in commands {
+        if apply(maps, command, cap).is_err() {
+            return false;
+        }
+    }
+    true
 }
 
 // The same maps once more, by way of their body.
@@ -71,8 +150,8 @@ impl<D: Disk> Project<D> {
         let Ok(maps) = copy_of(self.alloc, &self.maps) else {
             return Err(ProjectError::OutOfMemory);
         };
-        match Group::new(self.alloc) {
-            Ok(lines) => Ok(ProjectGroup { maps, lines }),
+        match ProjectGroup::over(self.alloc, maps) {
+            Ok(group) => Ok(group),
             Err(_) => Err(ProjectError::OutOfMemory),
         }
     }
@@ -110,9 +189,41 @@ impl<D: Disk> Project<D> {
         if !self.has_room_behind(group.lines.len() - 1, line.len()) {
             return Ok(None);
         }
-        match group.lines.push(line) {
+        match group.push(line, command) {
             Ok(()) => Ok(Some(commit(&mut group.maps, ready))),
             Err(_) => Err(ProjectError::OutOfMemory),
+        }
+    }
+
+    // Puts the lines of a group on the disk. Then its maps are the project's, and it has those that were the project's.
+    fn exchange(&mut self, group: &mut ProjectGroup) -> Result<(), ProjectError>
+        requires { IsGroupFor self.old group.old }
+        ensures ends { EndsPut D.Disk result self.old self.new (project_of group.old.maps) }
+        ensures any_moment { self.old.must_reopen ≡ false
+            → LeavesOnly D.Disk self.old.disk self.new.disk
+            (StandsForEither self.old.cap (project_of self.old.maps) (project_of group.old.maps)) }
+        ensures kept { IsProjectKept D.Disk self.new }
+        ensures cap { self.new.cap ≡ self.old.cap }
+        ensures before { OnOk result (project_of group.new.maps ≡ project_of self.old.maps) }
+        ensures lines { group.new.bytes ≡ group.old.bytes }
+        ensures fits { OnOk result (body_len (project_of self.old.maps) ≤ self.old.cap) }
+    {
+        if self.must_reopen {
+            return Err(ProjectError::Reopen);
+        }
+        if group.lines.is_empty() {
+            return Ok(());
+        }
+        match self.journal.append_all(&mut self.disk, &group.lines) {
+            Ok(()) => {
+                mem::swap(&mut self.maps, &mut group.maps);
+                Ok(())
+            }
+            Err(JournalError::Device) => {
+                self.must_reopen = true;
+                Err(ProjectError::Device)
+            }
+            Err(_) => unreachable!(),
         }
     }
 
@@ -132,23 +243,32 @@ impl<D: Disk> Project<D> {
         ensures kept { IsProjectKept D.Disk self.new }
         ensures cap { self.new.cap ≡ self.old.cap }
     {
-        if self.must_reopen {
-            return Err(ProjectError::Reopen);
+        let mut group = group;
+        self.exchange(&mut group)
+    }
+
+    /// Puts the lines of a group on the disk as `put` does, and returns an empty group over the project's maps, unless
+    /// there is no memory for it. That takes a step for each line, where `begin_group` copies the maps.
+    pub fn put_and_begin(
+        &mut self,
+        group: ProjectGroup,
+    ) -> Result<Option<ProjectGroup>, ProjectError>
+        requires { IsGroupFor self.old group }
+        ensures ends { EndsPut D.Disk result self.old self.new (project_of group.maps) }
+
+        // A stop at any moment of the call leaves the maps without the group's lines or with all of them.
+        ensures any_moment { self.old.must_reopen ≡ false
+            → LeavesOnly D.Disk self.old.disk self.new.disk
+            (StandsForEither self.old.cap (project_of self.old.maps) (project_of group.maps)) }
+        ensures kept { IsProjectKept D.Disk self.new }
+        ensures cap { self.new.cap ≡ self.old.cap }
+        ensures begun { IfOk result (λ next. IfSome next (λ empty. CanPut self.new empty [])) }
+    {
+        let mut group = group;
+        match self.exchange(&mut group) {
+            Ok(()) => {}
+            Err(error) => return Err(error),
         }
-        let ProjectGroup { maps, lines } = group;
-        if lines.is_empty() {
-            return Ok(());
-        }
-        match self.journal.append_all(&mut self.disk, &lines) {
-            Ok(()) => {
-                self.maps = maps;
-                Ok(())
-            }
-            Err(JournalError::Device) => {
-                self.must_reopen = true;
-                Err(ProjectError::Device)
-            }
-            Err(_) => unreachable!(),
-        }
+        Ok(group.caught_up(self.alloc, self.geometry.cap()))
     }
 }

@@ -5,6 +5,9 @@ use Rattle.run_edit.specs.Runs.{none_waits}
 use Rattle.run_edit.proofs.Going.{Consumes-append, Consumes-end, Feeds-ok, Feeds-err, Ran-lost, Ran-ok, both, further}
 use Rattle.run_edit.proofs.reading.run_lines.Goals as goal
 
+pub take_turn-requires : goal.take_turn-requires
+take_turn-requires g c = c.loop.invariant.1.none
+
 pub loop-preserved : goal.loop-preserved
 loop-preserved g c =
     let read = c.loop.invariant.0 in
@@ -14,6 +17,7 @@ loop-preserved g c =
     let short : length more ≤ 4096 = grind (arith, common_steps) in (
       read ++ more,
       record {
+        none = c.in-Ok-take_turn.ensures.left;
         took = Consumes-append _ _ _ read more i.took c.in-Ok.ensures.bytes.0;
         turns = (let some = c.if-count-eq0.false in omega (arith, i.turns, length-append read more));
         few = omega (arith, c.in-Ok-take_turn.ensures.few, i.few);

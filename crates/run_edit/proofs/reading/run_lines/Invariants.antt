@@ -8,6 +8,7 @@ abbrev pub invariant-loop : goal.invariant-loop
 invariant-loop g l =
     (read : List ℕ)
     × record {
+      none : g.S.Session.waits l.session l.waiting [];
       took : Consumes (g.R.Read.remaining l.fn.reader) (g.R.Read.remaining l.reader) read;
       turns : l.counter ≤ length read;
       few : l.answered ≤ 4096 * l.counter;

@@ -9,11 +9,11 @@ settle-requires g c =
     let taken = c.in-Ok.ensures [] c.args.line.now (c.none_waiting-waiting.ensures c.args.session.now) (sym (take_all 257 c.args.line.now c.requires)) in
     (taken.2.0, taken.2.1)
 
-pub returns-in-Ok : goal.returns-in-Ok
-returns-in-Ok g c = λ whole front.
+pub returns : goal.returns
+returns g c = λ whole front.
     both_same g.S.Session.goes g.met.S.Session.then_more (g.S.Session.waits c.take.new.self c.take.new.waiting) none_waits (tt {0}) c.settle.result c.args.session.now c.take.new.self c.settle.new.self (whole ∷ [])
     (g.W.Write.contents c.args.writer.now) (g.W.Write.contents c.take.new.writer) (g.W.Write.contents c.settle.new.writer)
-    (c.in-Ok.ensures [] whole (c.none_waiting-waiting.ensures c.args.session.now) front) (λ left wait. c.settle.ensures left wait)
+    (c.in-Ok.ensures [] whole (c.none_waiting-waiting.ensures c.args.session.now) front) (λ left wait. c.settle.ensures.taken left wait)
 
 pub returns-in-Err : goal.returns-in-Err
 returns-in-Err g c = λ whole front.

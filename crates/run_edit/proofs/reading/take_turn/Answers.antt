@@ -18,7 +18,7 @@ returns-in-Ok-flush-clause-feeds g c = λ part begun.
     record {
       ends = kept g.S.Session.goes g.met.S.Session.then_more ℕ none_waits old new lines (tt {0}) c.in-Ok.count u w x
           (both_same g.S.Session.goes g.met.S.Session.then_more (g.S.Session.waits mid c.feed.new.waiting) none_waits c.in-Ok.count (Ok (tt {0})) old mid new lines u v w fed.ends
-          (λ left wait. c.in-Ok-settle.ensures left wait)) c.in-Ok-flush.ensures;
+          (λ left wait. c.in-Ok-settle.ensures.taken left wait)) c.in-Ok-flush.ensures;
       count = fed.count;
       begun = fed.begun;
     }
@@ -37,7 +37,7 @@ returns-in-Err-flush-clause-feeds g c = λ part begun.
     record {
       ends = stopped g.S.Session.goes g.met.S.Session.then_more ℕ none_waits old new lines (tt {0}) c.in-Err-flush.error u w x
           (both_same g.S.Session.goes g.met.S.Session.then_more (g.S.Session.waits mid c.feed.new.waiting) none_waits c.in-Ok.count (Ok (tt {0})) old mid new lines u v w fed.ends
-          (λ left wait. c.in-Ok-settle.ensures left wait)) c.in-Err-flush.ensures;
+          (λ left wait. c.in-Ok-settle.ensures.taken left wait)) c.in-Err-flush.ensures;
       count = tt;
       begun = tt;
     }
@@ -52,7 +52,7 @@ returns-in-Err-settle-clause-feeds g c = λ part begun.
     record {
       ends = lost g.S.Session.goes g.met.S.Session.then_more (Unit {0}) ℕ none_waits none_waits old new lines c.in-Err-settle.error (g.W.Write.contents c.args.writer.now) (g.W.Write.contents c.settle.new.writer)
           (both_same g.S.Session.goes g.met.S.Session.then_more {V = Unit {0}} (g.S.Session.waits mid c.feed.new.waiting) none_waits c.in-Ok.count (Err c.in-Err-settle.error) old mid new lines
-          (g.W.Write.contents c.args.writer.now) (g.W.Write.contents c.feed.new.writer) (g.W.Write.contents c.settle.new.writer) fed.ends (λ left wait. c.in-Err-settle.ensures left wait));
+          (g.W.Write.contents c.args.writer.now) (g.W.Write.contents c.feed.new.writer) (g.W.Write.contents c.settle.new.writer) fed.ends (λ left wait. c.in-Err-settle.ensures.taken left wait));
       count = tt;
       begun = tt;
     }

@@ -1,31 +1,27 @@
-use Rattle.std.proofs.Common.{◌≡◌, ◌∙◌, ◌++◌, [], ◌∷◌, ℕ, List, Ok, Err, None, refl, subst, sym}
-use Rattle.std.specs.Prelude.{Option}
+use Rattle.std.proofs.Common.{◌≡◌, ◌∙◌, ◌++◌, [], ◌∷◌, ℕ, List, Ok, Err, refl, subst, sym}
 use Rattle.std.proofs.lemmas.List.{take_all}
 use Rattle.run_edit.specs.Composing.{goes_behind, goes_none}
 use Rattle.run_edit.specs.Editing.{RepliesInProject}
 use Rattle.run_edit.specs.Groups.{Waits}
 use Rattle.run_edit.specs.Runs.{none_waits}
 use Rattle.run_edit.specs.Sessions.{GoesOver}
-use Rattle.run_edit.specs.declared.batch.Batch.{Batch}
-use Rattle.run_edit.proofs.Going.{both, further, nothing, taken_alone, weaker}
+use Rattle.run_edit.proofs.Going.{both, further, lost, none_left, nothing, taken_alone, weaker}
 use Rattle.run_edit.proofs.RunCalls.{line_goes}
 use Rattle.run_edit.proofs.project_run.ProjectSession.take.Goals as goal
 
 pub settle-requires : goal.settle-requires
 settle-requires g c =
-    let some = c.requires.waiting in (
-      some.0 ++ c.args.line.now ∷ [],
-      subst (λ (w : Option Batch). Waits c.args.self.now w (some.0 ++ c.args.line.now ∷ [])) (sym c.take.ensures.value)
-          (c.hold.ensures.waits some.0 c.args.line.now some.1 (sym (take_all 257 c.args.line.now c.requires.short)) c.if-hold.true),
-    )
+    let some = c.requires.waiting in
+    (some.0 ++ c.args.line.now ∷ [], c.hold.ensures.waits some.0 c.args.line.now some.1 (sym (take_all 257 c.args.line.now c.requires.short)) c.if-hold.true)
+
+pub settle-requires-else-hold : goal.settle-requires-else-hold
+settle-requires-else-hold g c = let some = c.requires.waiting in (some.0, c.hold.ensures.same some.0 some.1 c.if-hold.false)
 
 pub returns-then-is_full : goal.returns-then-is_full
 returns-then-is_full g c = λ lines whole wait front.
-    weaker (GoesOver g.D.Disk) (goes_behind g.D.Disk) none_waits (Waits c.settle.new.self c.take.new.self) c.settle.result c.args.self.now c.settle.new.self (lines ++ whole ∷ [])
-    (g.W.Write.contents c.args.writer.now) (g.W.Write.contents c.settle.new.writer)
-    (λ left none. subst (λ (w : Option Batch). Waits c.settle.new.self w left) (sym c.take.ensures.after) none)
-    (c.settle.ensures (lines ++ whole ∷ [])
-    (subst (λ (w : Option Batch). Waits c.args.self.now w (lines ++ whole ∷ [])) (sym c.take.ensures.value) (c.hold.ensures.waits lines whole wait front c.if-hold.true)))
+    none_left (GoesOver g.D.Disk) (goes_behind g.D.Disk) (Waits c.settle.new.self c.settle.new.waiting) c.settle.result c.args.self.now c.settle.new.self (lines ++ whole ∷ [])
+    (g.W.Write.contents c.args.writer.now) (g.W.Write.contents c.settle.new.writer) c.settle.ensures.left
+    (c.settle.ensures.taken (lines ++ whole ∷ []) (c.hold.ensures.waits lines whole wait front c.if-hold.true))
 
 pub returns-else-is_full : goal.returns-else-is_full
 returns-else-is_full g c = λ lines whole wait front.
@@ -34,21 +30,20 @@ returns-else-is_full g c = λ lines whole wait front.
 
 pub returns-in-Ok : goal.returns-in-Ok
 returns-in-Ok g c = λ lines whole wait front.
-    weaker (GoesOver g.D.Disk) (goes_behind g.D.Disk) none_waits (Waits c.answer_line.new.project c.take-else-hold.new.self) c.answer_line.result c.args.self.now c.answer_line.new.project (lines ++ whole ∷ [])
-    (g.W.Write.contents c.args.writer.now) (g.W.Write.contents c.answer_line.new.writer)
-    (λ left none. subst (λ (w : Option Batch). Waits c.answer_line.new.project w left) (sym c.take-else-hold.ensures.after) none)
-    (both (GoesOver g.D.Disk) (goes_behind g.D.Disk) none_waits none_waits (tt {0}) c.answer_line.result c.args.self.now c.settle-else-hold.new.self c.answer_line.new.project lines (whole ∷ [])
-    (g.W.Write.contents c.args.writer.now) (g.W.Write.contents c.settle-else-hold.new.writer) (g.W.Write.contents c.answer_line.new.writer)
-    (c.in-Ok.ensures lines (subst (λ (w : Option Batch). Waits c.args.self.now w lines) (sym c.take-else-hold.ensures.value) (c.hold.ensures.same lines wait c.if-hold.false)))
+    weaker (GoesOver g.D.Disk) (goes_behind g.D.Disk) none_waits (Waits c.answer_alone.new.project c.answer_alone.new.waiting) c.answer_alone.result c.args.self.now c.answer_alone.new.project (lines ++ whole ∷ [])
+    (g.W.Write.contents c.args.writer.now) (g.W.Write.contents c.answer_alone.new.writer)
+    (λ left none. subst (λ (ls : List (List ℕ)). Waits c.answer_alone.new.project c.answer_alone.new.waiting ls) (sym none) c.answer_alone.ensures.left)
+    (both (GoesOver g.D.Disk) (goes_behind g.D.Disk) none_waits none_waits (tt {0}) c.answer_alone.result c.args.self.now c.settle-else-hold.new.self c.answer_alone.new.project lines (whole ∷ [])
+    (g.W.Write.contents c.args.writer.now) (g.W.Write.contents c.settle-else-hold.new.writer) (g.W.Write.contents c.answer_alone.new.writer)
+    (c.in-Ok.ensures.taken lines (c.hold.ensures.same lines wait c.if-hold.false))
     (λ left none.
-    taken_alone (RepliesInProject g.D.Disk) (GoesOver g.D.Disk) (line_goes g.D.Disk g.met.D.Disk.counts_now) c.answer_line.result c.settle-else-hold.new.self c.answer_line.new.project left whole
-    (g.W.Write.contents c.settle-else-hold.new.writer) (g.W.Write.contents c.answer_line.new.writer) none (c.answer_line.ensures whole front)))
+    taken_alone (RepliesInProject g.D.Disk) (GoesOver g.D.Disk) (line_goes g.D.Disk g.met.D.Disk.counts_now) c.answer_alone.result c.settle-else-hold.new.self c.answer_alone.new.project left whole
+    (g.W.Write.contents c.settle-else-hold.new.writer) (g.W.Write.contents c.answer_alone.new.writer) none (c.answer_alone.ensures.answered whole front)))
 
 pub returns-in-Err : goal.returns-in-Err
 returns-in-Err g c = λ lines whole wait front.
-    weaker (GoesOver g.D.Disk) (goes_behind g.D.Disk) {U = Unit {0}} none_waits (Waits c.settle-else-hold.new.self c.take-else-hold.new.self) (Err c.in-Err.error) c.args.self.now c.settle-else-hold.new.self
-    (lines ++ whole ∷ []) (g.W.Write.contents c.args.writer.now) (g.W.Write.contents c.settle-else-hold.new.writer)
-    (λ left none. subst (λ (w : Option Batch). Waits c.settle-else-hold.new.self w left) (sym c.take-else-hold.ensures.after) none)
+    lost (GoesOver g.D.Disk) (goes_behind g.D.Disk) (Unit {0}) (Unit {0}) none_waits (Waits c.settle-else-hold.new.self c.settle-else-hold.new.waiting) c.args.self.now c.settle-else-hold.new.self
+    (lines ++ whole ∷ []) c.in-Err.error (g.W.Write.contents c.args.writer.now) (g.W.Write.contents c.settle-else-hold.new.writer)
     (further (GoesOver g.D.Disk) (goes_behind g.D.Disk) (Unit {0}) none_waits c.args.self.now c.settle-else-hold.new.self lines (whole ∷ []) c.in-Err.error
     (g.W.Write.contents c.args.writer.now) (g.W.Write.contents c.settle-else-hold.new.writer)
-    (c.in-Err.ensures lines (subst (λ (w : Option Batch). Waits c.args.self.now w lines) (sym c.take-else-hold.ensures.value) (c.hold.ensures.same lines wait c.if-hold.false))))
+    (c.in-Err.ensures.taken lines (c.hold.ensures.same lines wait c.if-hold.false)))

@@ -1,7 +1,7 @@
-use Rattle.std.proofs.Common.{◌≤◌, ◌≡◌, ◌∙◌, ◌+◌, ◌-◌, ℕ, List, Ok, length, refl, sym, ap, subst}
+use Rattle.std.proofs.Common.{◌≤◌, ◌≡◌, ◌∙◌, ◌+◌, ◌-◌, ◌++◌, ◌∷◌, [], ℕ, List, Ok, length, refl, sym, ap, subst}
 use Rattle.store_journal.specs.Groups.{IsGroupOf}
 use Rattle.store_journal.specs.State.{IsAbove}
-use Rattle.map_tables.specs.Projects.{ProjectMaps, body_len, project_of}
+use Rattle.map_tables.specs.Projects.{MapsView, ProjectMaps, body_len, project_of}
 use Rattle.map_commands.specs.ProjectCommands.{InProjectRange, project_spelling}
 use Rattle.map_commands.specs.ProjectReadiness as readiness
 use Rattle.map_commands.specs.ProjectLines.{Accepts}
@@ -67,10 +67,12 @@ returns-in-Ok-push-clause-can g c staged can =
     can_push c.args.self.now c.args.group.now _ staged (record { line = c.args.line.now; number = c.commit.result }) can
     (λ full. c.has_room_behind.ensures.room c.if-not-has_room_behind.false
     (subst (λ (n : ℕ). IsAbove c.args.self.now.room (n - 1 + length c.args.line.now)) (sym (c.len.ensures ∙ ap (λ (v : GroupState). length v.bytes) c.group.view_is)) full))
-    (λ lines is. c.in-Ok-push.ensures.pushed lines (subst (λ (v : GroupState). IsGroupOf lines v.bytes) (sym c.group.view_is) is))
-    (accepted c.args.self.now.cap c.cap.result (project_of c.args.group.now.maps) (project_of c.group.inside.maps) (project_of c.ready.new.maps) (project_of c.commit.new.maps)
+    (λ lines is. subst (λ (v : GroupState). IsGroupOf (lines ++ c.args.line.now ∷ []) v.bytes) (sym c.group-2.view_is)
+    (c.in-Ok-push.ensures.pushed lines (subst (λ (v : GroupState). IsGroupOf lines v.bytes) (sym c.group.view_is) is)))
+    (accepted c.args.self.now.cap c.cap.result (project_of c.args.group.now.maps) (project_of c.group.inside.maps) (project_of c.group-2.inside.maps) (project_of c.commit.new.maps)
     c.args.line.now c.in-Ok.command c.in-Ok-ready.ready.command c.commit.result
-    (c.cap.ensures ∙ ap (λ (v : _). v.cap) c.self.view_is) (ap (λ (v : GroupState). project_of v.maps) c.group.view_is) c.ready.ensures.project c.in-Ok-ready.ensures.same
+    (c.cap.ensures ∙ ap (λ (v : _). v.cap) c.self.view_is) (ap (λ (v : GroupState). project_of v.maps) c.group.view_is)
+    (ap (λ (v : GroupState). project_of v.maps) c.group-2.view_is ∙ ap (λ (m : MapsView). project_of m) c.push.ensures.maps ∙ c.ready.ensures.project) c.in-Ok-ready.ensures.same
     c.in-Ok.ensures.ok.1 c.in-Ok.ensures.ok.0 c.in-Ok-ready.ensures.accepted c.commit.ensures.project c.commit.ensures.number)
 
 pub returns-in-Err-push-clause-ends : goal.returns-in-Err-push-clause-ends
@@ -85,5 +87,5 @@ returns-in-Err-push-clause-ends g c =
               c.in-Ok.ensures.ok.1 c.in-Ok.ensures.ok.0 c.in-Ok-ready.ensures.accepted refl refl,
         ),
       ),
-      (c.in-Err-push.ensures.stays ∙ ap (λ (v : GroupState). v.bytes) c.group.view_is, c.ready.ensures.project ∙ ap (λ (v : GroupState). project_of v.maps) c.group.view_is),
+      (c.in-Err-push.ensures.stays ∙ ap (λ (v : GroupState). v.bytes) c.group.view_is, ap (λ (m : MapsView). project_of m) c.push.ensures.maps ∙ c.ready.ensures.project ∙ ap (λ (v : GroupState). project_of v.maps) c.group.view_is),
     )
