@@ -208,11 +208,14 @@ pub fn draw<D: Disk, W: Write, F: Write>(
         Ok(project) => project,
         Err(refused) => return not_opened(refused),
     };
-    if let Some(how) = rehearse(alloc, &project, script, faults) {
-        return HandedBack {
-            how,
-            disk: project.into_disk(),
-        };
+    match rehearse(alloc, &project, script, faults) {
+        Some(how) => {
+            return HandedBack {
+                how,
+                disk: project.into_disk(),
+            };
+        }
+        None => {}
     }
     let mut canvas = ProjectCanvas::new(project);
     let how = draw_onto(alloc, &mut canvas, script, writer, faults);

@@ -16,9 +16,8 @@ returns c =
     let ends = subst (λ (p : ProjectMaps). EndsStep c.apply.result (step p c.in-Ok.command c.self.inside.cap) p new) (ap (λ (d : Drafted). d.maps) c.self.view_is)
     c.apply.ensures.ends in
     let changes = tried c.self.inside.cap old.maps new line c.in-Ok.command c.self.inside.maps.spare c.apply.result c.in-Ok.ensures.ok.1 c.in-Ok.ensures.ok.0
-    c.in-Ok.ensures.fault ends c.apply.ensures.promised in
-    (
+    c.in-Ok.ensures.fault ends c.apply.ensures.promised in (
       subst (λ (outcome : Result ℕ ℕ). ChangesBy old.cap old.maps line outcome new) (sym c.outcome_of.ensures)
-      (subst (λ (n : ℕ). ChangesBy n old.maps line (outcome_of c.apply.result) new) cap changes),
+          (subst (λ (n : ℕ). ChangesBy n old.maps line (outcome_of c.apply.result) new) cap changes),
       cap,
     )
