@@ -2,6 +2,7 @@
 use Rattle.std.proofs.Common.{◌≡◌, ◌⊎◌, inl, inr, ℕ, Bool, false, true, List, Option, None, Some, Result, Ok, Err, ◌∙◌, refl, sym, subst, ap}
 use Rattle.std.specs.Prelude.{MatchOption}
 use Rattle.std.specs.Io.KnownBytes.{Keeps}
+use Rattle.store_disk.specs.declared.disk.Disk.{Ghosts}
 use Rattle.store_project.specs.States.{State}
 use Rattle.cli_print.specs.Reading.{ReadsAll}
 use Rattle.std.proofs.KnownBytes.{Keeps-refl}
@@ -11,12 +12,13 @@ use Rattle.run_script.specs.Canvases.{Drafted, draft_canvas, draft_of, first_dra
 use Rattle.run_script.specs.Drawn.{IsScriptDrawn}
 use Rattle.run_script.specs.declared.drawing.Stop.{Stop}
 use Rattle.run_script.specs.declared.error.ScriptError.{ScriptError}
-use Rattle.cli_program.specs.Drawing.{DrawsWhole, IsDrawnOnto, IsHeldBack, TellsStopFrom}
+use Rattle.cli_program.specs.Drawing.{DrawsWhole, IsDrawnOnto, IsHeldBack, IsTriedOntoSome, IsTriedOver, TellsStopFrom}
+use Rattle.cli_program.specs.DrawnOver.{IsTriedOverDisk}
 use Rattle.cli_program.specs.ScriptMaps.{IsReadDrawn, IsStoppedFrom, IsWithoutUntouched, NotReadDrawn, OverScript}
 use Rattle.cli_program.specs.SomeSource.{OverSome, OverSomeMaps}
 use Rattle.cli_program.specs.Wads.{OverWad}
 use Rattle.cli_program.proofs.Scripts.{whole_end}
-use Rattle.cli_program.proofs.Sources.{unread_of}
+use Rattle.cli_program.proofs.Sources.{of_opening, unread_of}
 use Rattle.cli_refusals.specs.declared.refusal.Refusal.{Refusal}
 
 -- with the status 0 all lines of the script were drawn
@@ -52,6 +54,17 @@ pub rehearsed : (name text : List ℕ) (old first new : Drafted) (d x : Option (
     → MatchOption result (((tried : Drafted) × DrawsWhole text first tried) × Keeps d x) (λ how. IsHeldBack first text how)
 rehearsed name text old first new d x None same (drawn, kept) = ((new, subst (λ (q : Drafted). DrawsWhole text q new) same drawn), kept)
 rehearsed name text old first new d x (Some how) same stopped = subst (λ (q : Drafted). IsHeldBack q text how) same (held_back name text how old d x stopped)
+
+-- a script that was tried over a copy of a project's maps
+pub tried_same : {D : Type 0} (project : State D) (m : MapsView) (n : ℕ) (verbose : Bool) (text : List ℕ) (how : Result ℕ Refusal) (u w : Option (List ℕ)) → m ≡ project.maps
+    → n ≡ project.cap → IsTriedOver (record { maps = project_of m; cap = n }) verbose text how u w → IsTriedOver (draft_of project) verbose text how u w
+tried_same project m n verbose text how u w same cap tried =
+    subst (λ (d : Drafted). IsTriedOver d verbose text how u w) (draft_same project m n (record { maps = project_of m; cap = n }) refl same cap) tried
+
+pub tried_onto_some : {D : Type 0} (facts : Ghosts D) (before after : D) (verbose : Bool) (text : List ℕ) (how : Result ℕ Refusal) (u w : Option (List ℕ))
+    → IsTriedOverDisk facts before after verbose text how u w → IsTriedOntoSome verbose how u w
+tried_onto_some facts before after verbose text how u w (only, inl ((e, is, refused, counted), kept)) = inr (inl (e, is, of_opening (facts.reads before) e refused, kept))
+tried_onto_some facts before after verbose text how u w (only, inr (project, opened, tried)) = inr (inr (text, draft_of project, tried))
 
 -- ---- A script
 

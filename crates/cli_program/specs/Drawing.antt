@@ -187,7 +187,7 @@ IsDrawnOntoSome {D = D} facts verbose script how writer-old writer-new =
     × IsDrawnOrLeft facts verbose script how project disk writer-old writer-new
 
 -- the script can't be read; or it was read whole, and no project was opened, or its lines were
--- drawn onto one
+-- drawn onto one, or left
 abbrev pub IsDrawnInto : {D : Type 0} → Ghosts D → Bool → Bool → Result ℕ Refusal → Option (List ℕ)
     → Option (List ℕ) → Option (List ℕ) → Option (List ℕ) → Type 0
 IsDrawnInto facts from_file verbose how reader-old reader-new writer-old writer-new =
@@ -210,3 +210,11 @@ abbrev pub IsScriptTried : Bool → Result ℕ Refusal → Option (List ℕ) →
 IsScriptTried verbose how writer-old writer-new =
     EndsUnread how writer-old writer-new
     ⊎ ((script : List ℕ) × IsTriedOn verbose script how writer-old writer-new)
+
+-- a script can't be read, or no project opened; or the lines of the script were tried over some
+-- project's maps
+abbrev pub IsTriedOntoSome : Bool → Result ℕ Refusal → Option (List ℕ) → Option (List ℕ) → Type 0
+IsTriedOntoSome verbose how writer-old writer-new =
+    EndsUnread how writer-old writer-new ⊎ EndsUnopened how writer-old writer-new
+    ⊎ ((script : List ℕ) × (maps : Drafted)
+    × IsTriedOver maps verbose script how writer-old writer-new)

@@ -1,11 +1,12 @@
 //! The request `draw`: the lines of a script, drawn onto a disk's project, or tried over maps in memory.
 ghost use Rattle.std.specs.Prelude.{◌≡◌, ◌≤◌, ◌<◌, ◌⊎◌, None, Ok, length, IfErr, IfOk, IfSome, MatchOption};
 ghost use Rattle.std.specs.Io.KnownBytes.{Keeps};
-ghost use Rattle.cli_program.specs.Drawing.{DrawsWhole, IsDrawnOnto, IsHandedOn, IsHeldBack, IsStopTold, IsTriedOn, ShowsStop, TellsRefused, TellsStopFrom, stop_status};
+ghost use Rattle.cli_program.specs.Drawing.{DrawsWhole, IsDrawnOnto, IsHandedOn, IsHeldBack, IsStopTold, IsTriedOn, IsTriedOver, ShowsStop, TellsRefused, TellsStopFrom, stop_status};
 ghost use Rattle.map_script.specs.Views.{seen};
+ghost use Rattle.map_tables.specs.Projects.{body_len, project_of};
 ghost use Rattle.run_script.specs.Canvases.{Drafted, NothingWaits, draft_of};
 ghost use Rattle.run_script.specs.declared.error.ScriptError.TheVariants.{OutOfMemory};
-ghost use Rattle.cli_program.specs.DrawnOver.{IsDrawnOver};
+ghost use Rattle.cli_program.specs.DrawnOver.{IsDrawnOver, IsTriedOverDisk};
 ghost use Rattle.cli_program.specs.ScriptMaps.{IsStoppedFrom};
 
 use crate::over_disk::{HandedBack, not_opened, open_project};
@@ -242,6 +243,54 @@ pub fn try_script<W: Write, F: Write>(
 {
     let mut draft = Draft::new(alloc);
     draw_onto(alloc, &mut draft, script, writer, faults)
+}
+
+/// Tries a script over a copy of the maps of a disk's project, line by line up to the first refused one, which is
+/// reported on `faults`. Answers of queries are written.
+#[inline(never)]
+pub fn try_over<D: Disk, W: Write, F: Write>(
+    alloc: Global,
+    disk: D,
+    script: Script<'_>,
+    writer: &mut W,
+    faults: &mut F,
+) -> HandedBack<D>
+    ensures small { IfOk result.how (λ s. s ≤ 3) }
+    ensures tried { IsTriedOverDisk D.Disk disk result.disk script.entry.is_verbose
+        script.entry.text.now result.how (W.contents writer.old) (W.contents writer.new) }
+    ensures quiet { result.how ≡ Ok 0 → Keeps (F.contents faults.old) (F.contents faults.new) }
+{
+    let project = match open_project(alloc, disk) {
+        Ok(project) => project,
+        Err(refused) => return not_opened(refused),
+    };
+    let how = try_copy(alloc, project.maps(), project.cap(), script, writer, faults);
+    HandedBack {
+        how,
+        disk: project.into_disk(),
+    }
+}
+
+// Tries a script over a copy of these maps, whose body may be as long as `cap` says.
+fn try_copy<W: Write, F: Write>(
+    alloc: Global,
+    maps: &Maps,
+    cap: u32,
+    script: Script<'_>,
+    writer: &mut W,
+    faults: &mut F,
+) -> Result<u8, Refusal>
+    requires { body_len (project_of maps.now) ≤ cap }
+    ensures small { IfOk result (λ s. s ≤ 3) }
+    ensures tried { IsTriedOver (record { maps = project_of maps.now; cap = cap })
+        script.entry.is_verbose script.entry.text.now result
+        (W.contents writer.old) (W.contents writer.new) }
+    ensures quiet { result ≡ Ok 0 → Keeps (F.contents faults.old) (F.contents faults.new) }
+{
+    match Draft::over(alloc, maps, cap) {
+        Ok(mut draft) => draw_onto(alloc, &mut draft, script, writer, faults),
+        Err(_) => Err(Refusal::Lines(EditorError::OutOfMemory)),
+    }
 }
 
 /// Draws a script onto maps in memory as a whole, or returns how a request ends if not all lines were drawn. A refused

@@ -94,8 +94,8 @@ third wall of this room in the lines that follow, and `$line(256,128)` for the l
 place. Four words draw shapes by several commands: `area` a sector inside some corners,
 `pillar` walls round nothing, `door` a door in place of a sector, `change` an item with
 other values, as `change line $line(256,128) SPECIAL=11`. --verbose prints the answer to
-each command. `draw --check SCRIPT` tries a script on maps in memory, and opens no project
-file.";
+each command. `draw --check SCRIPT` tries a script on maps in memory, and `draw --check
+SCRIPT FILE` over the maps of a project, which stays as it is.";
 
 /// `dump`.
 pub const DUMP: &str = "\
