@@ -1,5 +1,5 @@
 -- Requests about scripts, and how loud each request is.
-use Rattle.std.proofs.Common.{◌≡◌, ◌⊎◌, map, ℕ, Bool, false, true, List, Option, None, Some, Result, Ok, Err, ◌∙◌, ◌<◌, get_or, inl, inr, length, refl, ap, arith, subst, sym}
+use Rattle.std.proofs.Common.{◌≡◌, ◌⊎◌, ℕ, Bool, false, true, List, Option, None, Some, Result, Ok, Err, ◌∙◌, inl, inr, refl, ap, arith, subst, sym}
 use Rattle.cli_words.specs.declared.asked.Request.{Request}
 use Rattle.cli_words.specs.declared.asked.Request.TheVariants.{Scratch, Create, Edit, Check, Lint, Draw, TryScript, Dump, Salvage, Picture, Inspect, Levels, Build, Rebuild}
 use Rattle.cli_refusals.specs.Statuses.{status_in}
@@ -12,11 +12,8 @@ use Rattle.run_script.specs.declared.error.ScriptError.TheVariants as cut
 use Rattle.cli_program.specs.Kinds.{IsQuiet}
 use Rattle.cli_program.proofs.Sources.{unread_of}
 use Rattle.std.proofs.KnownBytes.{Keeps-refl}
-use Rattle.std.proofs.lemmas.Option.{slice_get_read}
-use Rattle.std.specs.Prelude.{IfOk, IfSome}
+use Rattle.std.specs.Prelude.{IfOk, slice_get}
 use Rattle.map_script.specs.Scripts.{script_lines}
-use Rattle.map_script.specs.Views.{seen}
-use Rattle.map_script.specs.declared.script.ScriptLine.{ScriptLine}
 use Rattle.store_disk.specs.declared.disk.Disk.{Ghosts}
 use Rattle.cli_program.specs.Drawing.{IsDrawnInto, IsHandedOn, IsReadTried, IsScriptTried, ShowsStop, TellsRefused, TellsStopFrom}
 
@@ -49,26 +46,22 @@ tried_of_file verbose how r s u w (inl unread) = inl (unread_of r s u w how unre
 tried_of_file verbose how r s u w (inr (script, input, done)) = inr (script, done)
 
 -- the line was told that was refused
-pub told_refused : {U : Type 0} (told : Result U ScriptError) (script : List ℕ) (lines : List ScriptLine) (drawn : Result (Option Stop) ScriptError) (field : Option Stop)
-    (stop : Stop) (line : ScriptLine) (d x : Option (List ℕ)) → drawn ≡ Ok field → field ≡ Some stop → IfOk drawn (λ o. IfSome o (λ s. s.place < length lines))
-    → line ≡ get_or lines stop.place line → ShowsStop told script (seen line) stop.code d x → TellsRefused told script lines drawn d x
-told_refused told script lines drawn field stop line d x whole some inside is said =
-    let here : drawn ≡ Ok (Some stop) = whole ∙ ap Ok some in
-    let below : stop.place < length lines =
-    subst (λ (r : Result (Option Stop) ScriptError). IfOk r (λ o. IfSome o (λ s. s.place < length lines))) here inside in
-    subst (λ (r : Result (Option Stop) ScriptError). TellsRefused told script lines r d x) (sym here)
-    (line, slice_get_read lines (length lines) stop.place line refl below is, said)
+pub told_refused : {U : Type 0} (told : Result U ScriptError) (script : List ℕ) (lines : List (ℕ × List ℕ)) (drawn : Result (Option Stop) ScriptError) (field : Option Stop)
+    (stop : Stop) (line : ℕ × List ℕ) (d x : Option (List ℕ)) → drawn ≡ Ok field → field ≡ Some stop → slice_get lines stop.place ≡ Some line
+    → ShowsStop told script line stop.code d x → TellsRefused told script lines drawn d x
+told_refused told script lines drawn field stop line d x whole some is said =
+    subst (λ (r : Result (Option Stop) ScriptError). TellsRefused told script lines r d x) (sym (whole ∙ ap Ok some)) (line, is, said)
 
 -- a script that was drawn, and how it ended, with what was told of it
-pub told_end : {S : Type 0} (facts : canvas.Ghosts S) (verbose : Bool) (name script : List ℕ) (lines : List ScriptLine) (drawn : Result (Option Stop) ScriptError)
-    (told : Result (Unit {0}) ScriptError) (old new : S) (how : Result ℕ Refusal) (u v w d x : Option (List ℕ)) → map seen lines ≡ script_lines script
+pub told_end : {S : Type 0} (facts : canvas.Ghosts S) (verbose : Bool) (name script : List ℕ) (lines : List (ℕ × List ℕ)) (drawn : Result (Option Stop) ScriptError)
+    (told : Result (Unit {0}) ScriptError) (old new : S) (how : Result ℕ Refusal) (u v w d x : Option (List ℕ)) → lines ≡ script_lines script
     → IsScriptDrawn facts verbose (script_lines script) drawn old u new v → IsHandedOn drawn how v w → TellsRefused told name lines drawn d x
     → IfOk how (λ s. (s ≡ 0) ⊎ ((s ≡ 3) × TellsStopFrom facts verbose name script old u d x))
 told_end facts verbose name script lines (Ok None) told old new how u v w d x same is (inl (ended, kept)) said =
     subst (λ (h : Result ℕ Refusal). IfOk h (λ s. (s ≡ 0) ⊎ ((s ≡ 3) × TellsStopFrom facts verbose name script old u d x))) (sym ended) (inl refl)
 told_end facts verbose name script lines (Ok (Some stop)) told old new how u v w d x same is (inl (ended, kept)) said =
     subst (λ (h : Result ℕ Refusal). IfOk h (λ s. (s ≡ 0) ⊎ ((s ≡ 3) × TellsStopFrom facts verbose name script old u d x))) (sym ended)
-    (inr (refl, (stop, new, v, is, lines, same, told, said)))
+    (inr (refl, (stop, new, v, is, told, subst (λ (ls : List (ℕ × List ℕ)). TellsRefused told name ls (Ok (Some stop)) d x) same said)))
 told_end facts verbose name script lines (Err cut.OutOfMemory) told old new how u v w d x same is (inl (ended, kept)) said =
     subst (λ (h : Result ℕ Refusal). IfOk h (λ s. (s ≡ 0) ⊎ ((s ≡ 3) × TellsStopFrom facts verbose name script old u d x))) (sym ended) tt
 told_end facts verbose name script lines (Err cut.WriterFailed) told old new how u v w d x same is (inl (ended, kept)) said =

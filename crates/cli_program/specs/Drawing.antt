@@ -1,11 +1,9 @@
 -- What the request `draw` does (docs/COMMANDS.md, "Scripts").
-use Rattle.std.specs.Prelude.{◌≡◌, ◌⊎◌, ℕ, Bool, true, false, List, [], Option, Some, None, Result, Ok, Err, map, slice_get}
+use Rattle.std.specs.Prelude.{◌≡◌, ◌⊎◌, ℕ, Bool, true, false, List, [], Option, Some, None, Result, Ok, Err, slice_get}
 use Rattle.std.specs.Io.KnownBytes.{Appends, Consumes, IsAtEnd, Keeps}
 use Rattle.lump_text.specs.Shown.{shown_lines, shown_text}
 use Rattle.store_disk.specs.declared.disk.Disk.{Ghosts}
 use Rattle.map_script.specs.Scripts.{script_lines}
-use Rattle.map_script.specs.Views.{seen}
-use Rattle.map_script.specs.declared.script.ScriptLine.{ScriptLine}
 use Rattle.store_project.specs.States.{State}
 use Rattle.store_project.specs.declared.error.ProjectError.{ProjectError}
 use Rattle.run_script.specs.Canvases.{Drafted, draft_canvas, draft_of, first_draft, project_canvas}
@@ -80,11 +78,11 @@ ShowsStop (Err cut.WriterFailed) script line code faults-old faults-new = Unit {
 
 -- this was told of the lines of a script that were drawn so: which one was refused, and why; and
 -- nothing where none was
-abbrev pub TellsRefused : {U : Type 0} → Result U ScriptError → List ℕ → List ScriptLine
+abbrev pub TellsRefused : {U : Type 0} → Result U ScriptError → List ℕ → List (ℕ × List ℕ)
     → Result (Option Stop) ScriptError → Option (List ℕ) → Option (List ℕ) → Type 0
 TellsRefused told script lines (Ok (Some stop)) faults-old faults-new =
-    (line : ScriptLine) × (slice_get lines stop.place ≡ Some line)
-    × ShowsStop told script (seen line) stop.code faults-old faults-new
+    (line : ℕ × List ℕ) × (slice_get lines stop.place ≡ Some line)
+    × ShowsStop told script line stop.code faults-old faults-new
 TellsRefused told script lines (Ok None) faults-old faults-new = Keeps faults-old faults-new
 TellsRefused told script lines (Err e) faults-old faults-new = Keeps faults-old faults-new
 
@@ -95,9 +93,8 @@ TellsStopFrom {S = S} facts verbose name script old writer-old faults-old faults
     (stop : Stop) × (new : S) × (writer-new : Option (List ℕ))
     × IsScriptDrawn facts verbose (script_lines script) (Ok (Some stop)) old writer-old
     new writer-new
-    × (lines : List ScriptLine) × (map seen lines ≡ script_lines script)
     × (told : Result (Unit {0}) ScriptError)
-    × TellsRefused told name lines (Ok (Some stop)) faults-old faults-new
+    × TellsRefused told name (script_lines script) (Ok (Some stop)) faults-old faults-new
 
 -- ---- Memory
 

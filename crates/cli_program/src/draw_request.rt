@@ -12,7 +12,7 @@ ghost use Rattle.cli_program.specs.ScriptMaps.{IsStoppedFrom};
 use crate::over_disk::{HandedBack, not_opened, open_project};
 use cli_refusals::{DONE, Refusal};
 use lump_text::{shown_name, write_shown_lines};
-use map_script::{Names, ScriptLine, script_lines};
+use map_script::{Names, ScriptLine, ScriptLines, script_lines};
 use map_tables::Maps;
 use run_edit::EditorError;
 use run_script::{Canvas, Draft, ProjectCanvas, ScriptError, Stop, write_refused};
@@ -40,7 +40,7 @@ fn stop_told(
     maps: &Maps,
     names: &Names,
     script: &str,
-    line: &ScriptLine,
+    line: &ScriptLine<'_>,
     code: u16,
 ) -> Result<Vec<u8>, ScriptError>
     ensures told { IfOk result (λ told.
@@ -63,7 +63,7 @@ fn show_stop<F: Write>(
     maps: &Maps,
     names: &Names,
     script: &str,
-    line: &ScriptLine,
+    line: &ScriptLine<'_>,
     code: u16,
     faults: &mut F,
 ) -> Result<(), ScriptError>
@@ -86,7 +86,7 @@ fn say_stop<F: Write>(
     maps: &Maps,
     names: &Names,
     script: &str,
-    lines: &[ScriptLine],
+    lines: &ScriptLines,
     drawn: Result<Option<Stop>, ScriptError>,
     faults: &mut F,
 ) -> Result<(), ScriptError>
@@ -101,8 +101,8 @@ fn say_stop<F: Write>(
     };
     match stopped {
         Some(stop) => {
-            let line = &lines[stop.place];
-            show_stop(alloc, maps, names, script, line, stop.code, faults)
+            let line = lines.line(stop.place);
+            show_stop(alloc, maps, names, script, &line, stop.code, faults)
         }
         None => Ok(()),
     }

@@ -4,6 +4,7 @@ pub mod Holding
 pub mod Layering
 pub mod Leasts
 pub mod Leaving
+pub mod LineTexts
 pub mod PlacedTwice
 pub mod PlacedWords
 pub mod Replacing

@@ -33,7 +33,7 @@ HideOlder others [] = Unit {0}
 HideOlder others (h ∷ hs) =
     (h.hidden ≡ newest_of others h.name.items) × HideOlder (others ++ h ∷ []) hs
 
--- the place that is place_noted, if any is
+-- the place that a table notes for a name, if it has the name and notes a place
 abbrev pub place_noted : Option (Option ℕ) → Option ℕ
 place_noted (Some place) = place
 place_noted None = None

@@ -34,5 +34,5 @@ pub use meaning::Meaning;
 pub use names::{Mark, Names};
 pub use placing::{Facing, Placing};
 pub use resolving::{defined_name, resolve};
-pub use script::{ScriptLine, script_lines};
+pub use script::{ScriptLine, ScriptLines, script_lines};
 pub use words::first_word;

@@ -1,22 +1,105 @@
 //! The lines of a script, cleaned.
-ghost use Rattle.std.specs.Prelude.{◌≡◌, ◌∷◌, ◌≤◌, length, map, IfOk, IsOkUnless, option_copied};
+ghost use Rattle.std.specs.Prelude.{◌≡◌, [], ◌∷◌, ◌++◌, ◌≤◌, ◌<◌, length, slice_get, IfOk, IsOkUnless, Some, option_copied};
 ghost use Rattle.std.specs.List.{slice_split};
 ghost use Rattle.std.specs.Str.Lines.{strip_carriage_return};
 ghost use Rattle.map_script.specs.declared.error.DrawError.TheVariants.{OutOfMemory};
 ghost use Rattle.map_script.specs.Scripts.{begins_comment, cleaned, is_line_end, script_lines, without_mark};
-ghost use Rattle.map_script.specs.Views.{len_behind, lines_behind, seen, with_script_line};
+ghost use Rattle.map_script.specs.Views.{AreLineEnds, begin_of, len_behind, lines_behind, lines_from, seen, text_between, with_script_line};
 ghost use Rattle.map_script.specs.Words.{is_some_text};
 
 use crate::error::DrawError;
 use crate::text::{put_word, without_first};
 use crate::words::next_word;
 use std::alloc::Global;
+use std::marker::Model;
 
 /// A line of a script that has a word: its number, from 1, and its words, separated by single spaces.
-#[derive(Drop)]
-pub struct ScriptLine {
+#[derive(Clone, Copy)]
+pub struct ScriptLine<'a> {
     pub number: usize,
-    pub text: Vec<u8>,
+    pub text: &'a [u8],
+}
+
+/// The number of a line, and where its text ends among those of all lines, which stand one behind the other.
+#[derive(Clone, Copy)]
+pub struct LineEnd {
+    pub number: u32,
+    pub end: u32,
+}
+
+/// The lines of a script that have a word, each cleaned and with its number. They take as much memory as the script,
+/// and eight bytes for each line.
+#[derive(Drop)]
+pub struct ScriptLines {
+    texts: Vec<u8>,
+    ends: Vec<LineEnd>,
+}
+
+impl Model for ScriptLines {
+    ghost use Rattle.std.specs.Prelude.{ℕ, List, length};
+    ghost use Rattle.map_script.specs.Views.{AreLineEnds, lines_from};
+
+    ghost Value = { List (ℕ × List ℕ) };
+
+    ghost view = { λ s. lines_from s.texts.items 0 s.ends.items };
+
+    ghost invariant = { λ s. AreLineEnds 0 s.ends.items (length s.texts.items) };
+}
+
+// Where the text of a line begins: where the one before it ends.
+fn begin_of(ends: &[LineEnd], place: usize) -> usize
+    requires { place ≤ length ends.now }
+    ensures { result ≡ begin_of 0 ends.now place }
+{
+    if place == 0 {
+        0
+    } else {
+        ends[place - 1].end as usize
+    }
+}
+
+// A part of a text, from one place up to another.
+fn text_between(text: &[u8], from: usize, until: usize) -> &[u8]
+    requires begins { from ≤ until }
+    requires ends { until ≤ length text.now }
+    ensures { result.now ≡ text_between text.now from until }
+{
+    &text[from..until]
+}
+
+// The line at a place among lines whose texts end so.
+fn line_in<'a>(texts: &'a [u8], ends: &[LineEnd], place: usize) -> ScriptLine<'a>
+    requires place { place < length ends.now }
+    requires ends { AreLineEnds 0 ends.now (length texts.now) }
+    ensures { slice_get (lines_from texts.now 0 ends.now) place ≡ Some (seen result) }
+{
+    let line = ends[place];
+    let begin = begin_of(ends, place);
+    ScriptLine {
+        number: line.number as usize,
+        text: text_between(texts, begin, line.end as usize),
+    }
+}
+
+impl ScriptLines {
+    ghost use Rattle.std.specs.Prelude.{◌≡◌, ◌<◌, ◌^◌, length, slice_get, Some};
+    ghost use Rattle.map_script.specs.Views.{seen};
+
+    /// How many lines there are.
+    pub fn len(&self) -> usize
+        ensures count { result ≡ length self.now }
+        ensures few { result < 2 ^ 63 }
+    {
+        self.ends.len()
+    }
+
+    /// The line at a place among them, from 0.
+    pub fn line(&self, place: usize) -> ScriptLine<'_>
+        requires { place < length self.now }
+        ensures { slice_get self.now place ≡ Some (seen result) }
+    {
+        line_in(&self.texts, &self.ends, place)
+    }
 }
 
 // The script without a leading byte order mark.
@@ -95,45 +178,103 @@ fn clean(alloc: Global, line: &[u8]) -> Result<Vec<u8>, DrawError>
     Ok(without_first(text))
 }
 
+// Whether a line has a word before its comment.
+fn has_word(line: &[u8]) -> bool {
+    match next_word(without_return(line)) {
+        Some((word, _)) => !begins_comment(word),
+        None => false,
+    }
+}
+
+// How many lines have a word: so much room is made for them at once, and none is left over.
+fn count_lines(script: &[u8]) -> usize {
+    let mut count = 0;
+    let mut rest = Some(script);
+    while let Some(text) = rest {
+        let (line, behind) = next_line(text);
+        if has_word(line) {
+            count += 1;
+        }
+        rest = behind;
+    }
+    count
+}
+
 /// The lines of a script that have a word, each cleaned and with its number.
 ///
 /// # Errors
 ///
-/// Only `OutOfMemory`.
+/// Only `OutOfMemory`, also for lines of 4 GiB and more.
 #[tactic(auto, using(crate::proofs::Cleaning::take_line))]
-pub fn script_lines(alloc: Global, script: &[u8]) -> Result<Vec<ScriptLine>, DrawError>
-    ensures ok { IfOk result (λ lines. map seen lines.items ≡ script_lines script.now) }
+pub fn script_lines(alloc: Global, script: &[u8]) -> Result<ScriptLines, DrawError>
+    ensures ok { IfOk result (λ lines. lines ≡ script_lines script.now) }
     ensures memory { IsOkUnless result OutOfMemory }
 {
-    let mut lines = Vec::new(alloc);
+    let mut texts = Vec::with_capacity(alloc, script.len())?;
+    let mut ends = Vec::with_capacity(alloc, count_lines(script))?;
     let mut rest = Some(without_mark(script));
     let mut number: usize = 0;
     while let Some(text) = rest {
         let (line, behind) = next_line(text);
         number += 1;
-        match put_line(alloc, &mut lines, number, line) {
+        match put_line(alloc, &mut texts, &mut ends, number, line) {
             Ok(()) => rest = behind,
             Err(error) => return Err(error),
         }
     }
-    Ok(lines)
+    Ok(ScriptLines { texts, ends })
+}
+
+// The number and the end of a line, if they have 32 bits.
+fn line_end(number: usize, end: usize) -> Result<LineEnd, DrawError>
+    ensures ok { IfOk result (λ e. (e.number ≡ number) × (e.end ≡ end)) }
+    ensures memory { IsOkUnless result OutOfMemory }
+{
+    match (u32::try_from(number), u32::try_from(end)) {
+        (Ok(number), Ok(end)) => Ok(LineEnd { number, end }),
+        _ => Err(DrawError::OutOfMemory),
+    }
+}
+
+// Adds a line, whose text is cleaned.
+#[tactic(auto, using(crate::proofs::LineTexts::line_added, crate::proofs::LineTexts::ends_added))]
+fn add_line(
+    texts: &mut Vec<u8>,
+    ends: &mut Vec<LineEnd>,
+    number: usize,
+    text: &[u8],
+) -> Result<(), DrawError>
+    requires { AreLineEnds 0 ends.old.items (length texts.old.items) }
+    ensures ok { IfOk result
+        (λ _. lines_from texts.new.items 0 ends.new.items
+        ≡ lines_from texts.old.items 0 ends.old.items ++ (number, text.now) ∷ []) }
+    ensures ends { IfOk result (λ _. AreLineEnds 0 ends.new.items (length texts.new.items)) }
+    ensures memory { IsOkUnless result OutOfMemory }
+{
+    texts.extend_from_slice(text)?;
+    let end = line_end(number, texts.len())?;
+    ends.push(end)?;
+    Ok(())
 }
 
 // Adds a line, if it has a word.
 fn put_line(
     alloc: Global,
-    lines: &mut Vec<ScriptLine>,
+    texts: &mut Vec<u8>,
+    ends: &mut Vec<LineEnd>,
     number: usize,
     line: &[u8],
 ) -> Result<(), DrawError>
+    requires { AreLineEnds 0 ends.old.items (length texts.old.items) }
     ensures ok { IfOk result
-        (λ _. map seen lines.new.items
-        ≡ with_script_line (map seen lines.old.items) number line.now) }
+        (λ _. lines_from texts.new.items 0 ends.new.items
+        ≡ with_script_line (lines_from texts.old.items 0 ends.old.items) number line.now) }
+    ensures ends { IfOk result (λ _. AreLineEnds 0 ends.new.items (length texts.new.items)) }
     ensures memory { IsOkUnless result OutOfMemory }
 {
     let text = clean(alloc, line)?;
-    if is_some_text(&text) {
-        lines.push(ScriptLine { number, text })?;
+    if !is_some_text(&text) {
+        return Ok(());
     }
-    Ok(())
+    add_line(texts, ends, number, &text)
 }

@@ -1,11 +1,9 @@
 -- The shapes that lines define, in their order.
-use Rattle.std.proofs.Common.{◌≡◌, ℕ, ◌+◌, ◌<◌, ◌&&◌, Bool, true, false, cond, List, [], ◌∷◌, ◌++◌, map, length, get_or, take, refl, ap, ap₂, sym, ◌∙◌, arith, Option, Some, None}
-use Rattle.std.specs.Prelude.{bytes_eq, nat_lt}
+use Rattle.std.proofs.Common.{◌≡◌, ℕ, ◌+◌, ◌<◌, ◌&&◌, Bool, true, false, cond, List, [], ◌∷◌, ◌++◌, length, get_or, take, refl, ap, ap₂, sym, ◌∙◌, arith, Option, Some, None}
+use Rattle.std.specs.Prelude.{bytes_eq, nat_lt, slice_get}
 use Rattle.std.proofs.lemmas.List.{append_assoc, map-append, take_more}
 use Rattle.map_script.specs.Defines.{define_words}
-use Rattle.map_script.specs.Views.{seen}
 use Rattle.map_script.specs.Words.{text_words}
-use Rattle.map_script.specs.declared.script.ScriptLine.{ScriptLine}
 use Rattle.run_script.specs.Blocks.{lines_between, with_places}
 use Rattle.run_script.specs.Defined as spec
 use Rattle.run_script.specs.Defined.{in_front_of_shapes, or_this, shape_at, shape_known, shapes_in}
@@ -16,20 +14,20 @@ use Rattle.run_script.proofs.PlacedLines.{next_line}
 -- ---- The shapes of the lines from a place on
 
 -- a line that defines none
-pub not_defined : (lines : List ScriptLine) (i : ℕ) (x : ScriptLine) → x ≡ get_or lines i x → i < length lines → define_words (text_words x.text.items) ≡ None
-    → shapes_in (lines_between (with_places (map seen lines)) i (length lines)) ≡ shapes_in (lines_between (with_places (map seen lines)) (i + 1) (length lines))
+pub not_defined : (lines : List (ℕ × List ℕ)) (i : ℕ) (x : ℕ × List ℕ) → slice_get lines i ≡ Some x → i < length lines → define_words (text_words x.1) ≡ None
+    → shapes_in (lines_between (with_places lines) i (length lines)) ≡ shapes_in (lines_between (with_places lines) (i + 1) (length lines))
 not_defined lines i x is below none =
-    let rest = lines_between (with_places (map seen lines)) (i + 1) (length lines) in
-    ap shapes_in (next_line lines i (length lines) x is below below) ∙ ap (λ o. in_front_of_shapes i rest o (shapes_in rest)) none
+    let rest = lines_between (with_places lines) (i + 1) (length lines) in
+    ap shapes_in (next_line lines i (length lines) x is below) ∙ ap (λ o. in_front_of_shapes i rest o (shapes_in rest)) none
 
 -- a line that defines one
-pub defined_next : (lines : List ScriptLine) (i : ℕ) (x : ScriptLine) (words : List (List ℕ)) → x ≡ get_or lines i x → i < length lines
-    → define_words (text_words x.text.items) ≡ Some words
-    → shapes_in (lines_between (with_places (map seen lines)) i (length lines))
-    ≡ shape_at i (lines_between (with_places (map seen lines)) (i + 1) (length lines)) words ∷ shapes_in (lines_between (with_places (map seen lines)) (i + 1) (length lines))
+pub defined_next : (lines : List (ℕ × List ℕ)) (i : ℕ) (x : ℕ × List ℕ) (words : List (List ℕ)) → slice_get lines i ≡ Some x → i < length lines
+    → define_words (text_words x.1) ≡ Some words
+    → shapes_in (lines_between (with_places lines) i (length lines))
+    ≡ shape_at i (lines_between (with_places lines) (i + 1) (length lines)) words ∷ shapes_in (lines_between (with_places lines) (i + 1) (length lines))
 defined_next lines i x words is below some =
-    let rest = lines_between (with_places (map seen lines)) (i + 1) (length lines) in
-    ap shapes_in (next_line lines i (length lines) x is below below) ∙ ap (λ o. in_front_of_shapes i rest o (shapes_in rest)) some
+    let rest = lines_between (with_places lines) (i + 1) (length lines) in
+    ap shapes_in (next_line lines i (length lines) x is below) ∙ ap (λ o. in_front_of_shapes i rest o (shapes_in rest)) some
 
 -- one shape more
 pub shapes_more : (all : List (ℕ × (ℕ × List ℕ))) (ss new : List Shape) (s : Shape) (t : spec.Shape) (rest : List spec.Shape) → new ≡ ss ++ s ∷ [] → shape_among all s ≡ t

@@ -1,49 +1,48 @@
 -- The lines of blocks, by their places.
-use Rattle.std.proofs.Common.{◌≡◌, ℕ, ◌+◌, ◌-◌, ◌<◌, ◌≤◌, ◌==◌, ◌&&◌, Bool, true, false, cond, List, [], ◌∷◌, ◌++◌, map, length, get_or, take, drop, refl, ap, ap₂, sym, subst, ◌∙◌, arith, add-one, Option, Some, None}
-use Rattle.std.specs.Prelude.{zero, suc}
+use Rattle.std.proofs.Common.{◌≡◌, ℕ, ◌+◌, ◌-◌, ◌<◌, ◌≤◌, ◌==◌, ◌&&◌, Bool, true, false, cond, List, [], ◌∷◌, ◌++◌, length, take, drop, refl, ap, ap₂, sym, subst, ◌∙◌, arith, Option, Some, None}
+use Rattle.std.specs.Prelude.{zero, suc, slice_get}
 use Rattle.std.specs.List.{enumerate_from}
-use Rattle.std.proofs.lemmas.List.{drop-drop, drop-take, length-map, take_all, take_more}
+use Rattle.std.proofs.lemmas.List.{drop-drop, drop-take, take_all}
+use Rattle.std.proofs.lemmas.Option.{get_or_from_slice_get, slice_get_within}
 use Rattle.std.proofs.lemmas.List.FromFn.{length-enumerate_from}
-use Rattle.map_script.specs.Views.{seen}
-use Rattle.map_script.specs.declared.script.ScriptLine.{ScriptLine}
 use Rattle.run_script.specs.Blocks.{behind_block, lines_between, block_len, block_lines, with_places}
 use Rattle.run_script.specs.Drawn.{IsAtPlace}
 use Rattle.run_script.specs.Turns.{Turn}
 
 -- ---- The line at a place
 
-numbered_at : (n i until : ℕ) (lines : List ScriptLine) (x : ScriptLine) → x ≡ get_or lines i x → i < length lines → i < until
-    → drop i (take until (enumerate_from n (map seen lines))) ≡ (n + i, seen x) ∷ drop (suc i) (take until (enumerate_from n (map seen lines)))
-numbered_at n i until [] x is below inside = absurd (omega (arith, below))
-numbered_at n i zero (l ∷ ls) x is below inside = absurd (omega (arith, inside))
-numbered_at n zero (suc u) (l ∷ ls) x is below inside =
+numbered_at : (n i until : ℕ) (lines : List (ℕ × List ℕ)) (x : ℕ × List ℕ) → slice_get lines i ≡ Some x → i < until
+    → drop i (take until (enumerate_from n lines)) ≡ (n + i, x) ∷ drop (suc i) (take until (enumerate_from n lines))
+numbered_at n i until [] x is inside = absurd (omega (arith, slice_get_within [] i x is))
+numbered_at n i zero (l ∷ ls) x is inside = absurd (omega (arith, inside))
+numbered_at n zero (suc u) (l ∷ ls) x is inside =
     let here : n ≡ n + 0 = omega arith in
-    ap₂ (λ (k : ℕ) (y : ScriptLine). (k, seen y) ∷ take u (enumerate_from (n + 1) (map seen ls))) here (sym is)
-numbered_at n (suc i) (suc u) (l ∷ ls) x is below inside =
+    ap₂ (λ (k : ℕ) (y : ℕ × List ℕ). (k, y) ∷ take u (enumerate_from (n + 1) ls)) here (get_or_from_slice_get (l ∷ ls) 0 x l is)
+numbered_at n (suc i) (suc u) (l ∷ ls) x is inside =
     let there : n + 1 + i ≡ n + suc i = omega arith in
-    numbered_at (n + 1) i u ls x is (omega (arith, below)) (omega (arith, inside))
-    ∙ ap (λ k. (k, seen x) ∷ drop (suc i) (take u (enumerate_from (n + 1) (map seen ls)))) there
+    numbered_at (n + 1) i u ls x is (omega (arith, inside))
+    ∙ ap (λ k. (k, x) ∷ drop (suc i) (take u (enumerate_from (n + 1) ls))) there
 
 -- the lines from a place on, where a line stands there
-pub next_line : (lines : List ScriptLine) (i until : ℕ) (x : ScriptLine) → x ≡ get_or lines i x → i < length lines → i < until
-    → lines_between (with_places (map seen lines)) i until ≡ (i, seen x) ∷ lines_between (with_places (map seen lines)) (i + 1) until
-next_line lines i until x is below inside =
+pub next_line : (lines : List (ℕ × List ℕ)) (i until : ℕ) (x : ℕ × List ℕ) → slice_get lines i ≡ Some x → i < until
+    → lines_between (with_places lines) i until ≡ (i, x) ∷ lines_between (with_places lines) (i + 1) until
+next_line lines i until x is inside =
     let after : suc i ≡ i + 1 = omega arith in
     let here : 0 + i ≡ i = omega arith in
-    numbered_at 0 i until lines x is below inside
-    ∙ ap₂ (λ (k m : ℕ). (k, seen x) ∷ drop m (take until (with_places (map seen lines)))) here after
+    numbered_at 0 i until lines x is inside
+    ∙ ap₂ (λ (k m : ℕ). (k, x) ∷ drop m (take until (with_places lines))) here after
 
-pub item_at : (lines : List ScriptLine) (i : ℕ) → i < length lines → (x : ScriptLine) × (x ≡ get_or lines i x)
-item_at [] i below = absurd (omega (arith, below))
-item_at (l ∷ ls) zero below = (l, refl)
-item_at (l ∷ ls) (suc i) below = item_at ls i (omega (arith, below))
+line_at : (lines : List (ℕ × List ℕ)) (i : ℕ) → i < length lines → (x : ℕ × List ℕ) × (slice_get lines i ≡ Some x)
+line_at [] i below = absurd (omega (arith, below))
+line_at (l ∷ ls) zero below = (l, refl)
+line_at (l ∷ ls) (suc i) below = line_at ls i (omega (arith, below))
 
 -- it is the place that is at hand
-pub at_next_line : (lines : List ScriptLine) (i until : ℕ) (turns : List Turn) → i < length lines → i < until
-    → IsAtPlace (lines_between (with_places (map seen lines)) i until) turns i
+pub at_next_line : (lines : List (ℕ × List ℕ)) (i until : ℕ) (turns : List Turn) → i < length lines → i < until
+    → IsAtPlace (lines_between (with_places lines) i until) turns i
 at_next_line lines i until turns below inside =
-    let (x, is) = item_at lines i below in
-    subst (λ (left : List (ℕ × (ℕ × List ℕ))). IsAtPlace left turns i) (sym (next_line lines i until x is below inside)) refl
+    let (x, is) = line_at lines i below in
+    subst (λ (left : List (ℕ × (ℕ × List ℕ))). IsAtPlace left turns i) (sym (next_line lines i until x is inside)) refl
 
 drop_none : {X : Type 0} (i : ℕ) → ◌≡◌ {A = List X} (drop i []) []
 drop_none zero = refl
@@ -57,10 +56,10 @@ none_left zero (suc u) (x ∷ xs) over = absurd (omega (arith, over))
 none_left (suc i) (suc u) (x ∷ xs) over = none_left i u xs (omega (arith, over))
 
 -- all lines
-pub all_between : (lines : List ScriptLine) → lines_between (with_places (map seen lines)) 0 (length lines) ≡ with_places (map seen lines)
+pub all_between : (lines : List (ℕ × List ℕ)) → lines_between (with_places lines) 0 (length lines) ≡ with_places lines
 all_between lines =
-    let len : length (with_places (map seen lines)) ≡ length lines = length-enumerate_from 0 (map seen lines) ∙ length-map lines seen in
-    take_all (length lines) (with_places (map seen lines)) (omega (arith, len))
+    let len : length (with_places lines) ≡ length lines = length-enumerate_from 0 lines in
+    take_all (length lines) (with_places lines) (omega (arith, len))
 
 -- ---- The lines of a block
 

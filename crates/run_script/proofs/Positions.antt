@@ -1,5 +1,5 @@
 -- Where a script has been read to, as a position of its lines.
-use Rattle.std.proofs.Common.{◌≡◌, ◌⊎◌, inl, inr, ℕ, ℤ, pos, ◌+◌, ◌-◌, ◌<◌, ◌≤◌, Bool, true, false, cond, List, [], ◌∷◌, ◌++◌, map, length, refl, ap, ap₂, sym, subst, ◌∙◌, arith, Option, Some, None, Result, Ok, Err}
+use Rattle.std.proofs.Common.{◌≡◌, ◌⊎◌, inl, inr, ℕ, ℤ, pos, ◌+◌, ◌-◌, ◌<◌, ◌≤◌, ◌^◌, Bool, true, false, cond, List, [], ◌∷◌, ◌++◌, length, refl, ap, ap₂, sym, subst, ◌∙◌, arith, Option, Some, None, Result, Ok, Err}
 use Rattle.std.specs.Prelude.{All, int_le}
 use Rattle.std.proofs.lemmas.List.{map-append}
 use Rattle.std.proofs.lemmas.List.Elements.{All-push}
@@ -121,9 +121,10 @@ pub not-turned : (all : List (ℕ × (ℕ × List ℕ))) (names : Scope) (bs out
 not-turned all names bs outer b code p split is = (turns_of all outer, turn_of all b, turns_more all bs outer b split, inr (ap Some is))
 
 -- a block that was entered stands within the lines, as those around it
-pub entered_within : (count : ℕ) (names named : Scope) (placing : Placing) (outer : List Block) (b : Block) (r : Reading) → Enters names placing outer b named r → All (IsBlockWithin count) outer
+pub entered_within : (count : ℕ) → count < 2 ^ 63 → (names named : Scope) (placing : Placing) (outer : List Block) (b : Block) (r : Reading) → Enters names placing outer b named r → All (IsBlockWithin count) outer
     → IsBlockWithin count b → IsWithinLines count r
-entered_within count names named placing outer b r e all w = record {
+entered_within count few names named placing outer b r e all w = record {
+  few = few;
   until = omega (arith, e.until, w.end);
   blocks = subst (λ (bs : List Block). All (IsBlockWithin count) bs) (sym e.blocks) (All-push (IsBlockWithin count) outer b all w);
 }

@@ -1,6 +1,6 @@
 -- A script that is drawn line by line, and turn by turn.
-use Rattle.std.proofs.Common.{◌≡◌, ◌⊎◌, inl, inr, ℕ, ◌+◌, ◌<◌, ◌≤◌, Bool, List, [], ◌∷◌, ◌++◌, map, length, get_or, refl, ap, ap₂, sym, subst, ◌∙◌, arith, Option, Some, None, Result, Ok, Err}
-use Rattle.std.specs.Prelude.{All, drop, IfNone, IfOk, MatchOption, MatchResult, suc, zero}
+use Rattle.std.proofs.Common.{◌≡◌, ◌⊎◌, inl, inr, ℕ, ◌+◌, ◌<◌, ◌≤◌, ◌^◌, Bool, List, [], ◌∷◌, ◌++◌, length, refl, ap, ap₂, sym, subst, ◌∙◌, arith, Option, Some, None, Result, Ok, Err}
+use Rattle.std.specs.Prelude.{All, drop, slice_get, IfNone, IfOk, MatchOption, MatchResult, suc, zero}
 use Rattle.std.proofs.lemmas.List.Elements.{All-nil}
 use Rattle.map_tables.specs.Projects.{current_map}
 use Rattle.map_tables.specs.Tables.{Tables}
@@ -10,10 +10,8 @@ use Rattle.map_script.specs.Known.{scope_of}
 use Rattle.map_script.specs.Loops.{loop_range, loop_words}
 use Rattle.map_script.specs.Scopes.{Scope, first_scope}
 use Rattle.map_script.specs.declared.error.DrawError.{DrawError}
-use Rattle.map_script.specs.Views.{seen}
 use Rattle.map_script.specs.Words.{text_words}
 use Rattle.map_script.specs.declared.names.Names.{Names}
-use Rattle.map_script.specs.declared.script.ScriptLine.{ScriptLine}
 use Rattle.run_script.specs.Blocks.{lines_between, with_places}
 use Rattle.run_script.specs.Defined.{Shape, shape_called}
 use Rattle.run_script.specs.Drawn.{Advances, AdvancesOver, ComesTo, DrawsNext, Progress, Steps, at_first, at_position, opened_by}
@@ -45,18 +43,18 @@ at_other : {S : Type 0} (facts : Ghosts S) (verbose : Bool) (shapes : List Shape
 at_other facts verbose shapes l ls old new refusal is drawn = rw is drawn
 
 -- the line of a block
-pub met_block : {S : Type 0} (facts : Ghosts S) (verbose : Bool) (shapes : List Shape) (lines : List ScriptLine) (x : ScriptLine) (canvas : S) (names named : Scope) (w : Option (List ℕ))
-    (r s : Reading) (outcome : Result Position DrawError) (refusal : Option ℕ) → x ≡ get_or lines r.place x → r.place < length lines → r.place < r.until
-    → after_opening names (current_map (facts.maps_in canvas)) shapes r.place (lines_between (with_places (map seen lines)) (r.place + 1) r.until)
-    (turns_of (with_places (map seen lines)) r.blocks.items) (text_words x.text.items) ≡ Some outcome
-    → OpensBlock outcome names refusal (position_of (with_places (map seen lines)) named s)
-    → Advances facts verbose shapes (progress_of (with_places (map seen lines)) canvas names w r) refusal (progress_of (with_places (map seen lines)) canvas named w s)
-met_block facts verbose shapes lines x canvas names named w r s outcome refusal is below inside block opens =
-    let all : List (ℕ × (ℕ × List ℕ)) = with_places (map seen lines) in
+pub met_block : {S : Type 0} (facts : Ghosts S) (verbose : Bool) (shapes : List Shape) (lines : List (ℕ × List ℕ)) (x : ℕ × List ℕ) (canvas : S) (names named : Scope) (w : Option (List ℕ))
+    (r s : Reading) (outcome : Result Position DrawError) (refusal : Option ℕ) → slice_get lines r.place ≡ Some x → r.place < r.until
+    → after_opening names (current_map (facts.maps_in canvas)) shapes r.place (lines_between (with_places lines) (r.place + 1) r.until)
+    (turns_of (with_places lines) r.blocks.items) (text_words x.1) ≡ Some outcome
+    → OpensBlock outcome names refusal (position_of (with_places lines) named s)
+    → Advances facts verbose shapes (progress_of (with_places lines) canvas names w r) refusal (progress_of (with_places lines) canvas named w s)
+met_block facts verbose shapes lines x canvas names named w r s outcome refusal is inside block opens =
+    let all : List (ℕ × (ℕ × List ℕ)) = with_places lines in
     let old = progress_of all canvas names w r in
     let new = progress_of all canvas named w s in
-    subst (λ (left : List (ℕ × (ℕ × List ℕ))). AdvancesOver facts verbose shapes left old refusal new) (sym (next_line lines r.place r.until x is below inside))
-    (at_block facts verbose shapes (r.place, seen x) (lines_between all (r.place + 1) r.until) old new outcome refusal (position_of all named s) block opens refl)
+    subst (λ (left : List (ℕ × (ℕ × List ℕ))). AdvancesOver facts verbose shapes left old refusal new) (sym (next_line lines r.place r.until x is inside))
+    (at_block facts verbose shapes (r.place, x) (lines_between all (r.place + 1) r.until) old new outcome refusal (position_of all named s) block opens refl)
 
 -- the line of a loop, of an `at` or of a `define`, or one that draws a shape, leads there
 pub by_loop : (names : Scope) (m : Tables) (shapes : List Shape) (place : ℕ) (lines : List (ℕ × (ℕ × List ℕ))) (turns : List Turn) (ws words : List (List ℕ))
@@ -101,40 +99,40 @@ by_none names m shapes place lines turns ws none neither not other =
     ∙ ap₂ (λ (o : Option (List (List ℕ))) (s : Option Shape). after_naming names m place lines turns ws o s) not other
 
 -- another line
-drew_other : {S : Type 0} (facts : Ghosts S) (verbose : Bool) (shapes : List Shape) (lines : List ScriptLine) (x : ScriptLine) (s : Sketch S) (r : Reading) (new : Progress S)
-    (refusal : Option ℕ) → x ≡ get_or lines r.place x → r.place < length lines → r.place < r.until → loop_words (text_words x.text.items) ≡ None
-    → at_words (text_words x.text.items) ≡ None → define_words (text_words x.text.items) ≡ None → shape_called shapes r.place (text_words x.text.items) ≡ None
-    → DrawsNext facts verbose (seen x) (lines_between (with_places (map seen lines)) (r.place + 1) r.until) (progress_of (with_places (map seen lines)) s.canvas s.names s.written r)
+drew_other : {S : Type 0} (facts : Ghosts S) (verbose : Bool) (shapes : List Shape) (lines : List (ℕ × List ℕ)) (x : ℕ × List ℕ) (s : Sketch S) (r : Reading) (new : Progress S)
+    (refusal : Option ℕ) → slice_get lines r.place ≡ Some x → r.place < r.until → loop_words (text_words x.1) ≡ None
+    → at_words (text_words x.1) ≡ None → define_words (text_words x.1) ≡ None → shape_called shapes r.place (text_words x.1) ≡ None
+    → DrawsNext facts verbose (x) (lines_between (with_places lines) (r.place + 1) r.until) (progress_of (with_places lines) s.canvas s.names s.written r)
     refusal new
-    → Advances facts verbose shapes (progress_of (with_places (map seen lines)) s.canvas s.names s.written r) refusal new
-drew_other facts verbose shapes lines x s r new refusal is below inside other neither not undrawn drawn =
-    let all : List (ℕ × (ℕ × List ℕ)) = with_places (map seen lines) in
+    → Advances facts verbose shapes (progress_of (with_places lines) s.canvas s.names s.written r) refusal new
+drew_other facts verbose shapes lines x s r new refusal is inside other neither not undrawn drawn =
+    let all : List (ℕ × (ℕ × List ℕ)) = with_places lines in
     let old = progress_of all s.canvas s.names s.written r in
-    subst (λ (left : List (ℕ × (ℕ × List ℕ))). AdvancesOver facts verbose shapes left old refusal new) (sym (next_line lines r.place r.until x is below inside))
-    (at_other facts verbose shapes (r.place, seen x) (lines_between all (r.place + 1) r.until) old new refusal
-    (by_none s.names (current_map (facts.maps_in s.canvas)) shapes r.place (lines_between all (r.place + 1) r.until) (turns_of all r.blocks.items) (text_words x.text.items)
+    subst (λ (left : List (ℕ × (ℕ × List ℕ))). AdvancesOver facts verbose shapes left old refusal new) (sym (next_line lines r.place r.until x is inside))
+    (at_other facts verbose shapes (r.place, x) (lines_between all (r.place + 1) r.until) old new refusal
+    (by_none s.names (current_map (facts.maps_in s.canvas)) shapes r.place (lines_between all (r.place + 1) r.until) (turns_of all r.blocks.items) (text_words x.1)
     other neither not undrawn) drawn)
 
 -- how another line ends
-pub ended_next : {S : Type 0} (facts : Ghosts S) (verbose : Bool) (shapes : List Shape) (lines : List ScriptLine) (x : ScriptLine) (old new : Sketch S) (canvas : S) (r s : Reading)
-    (result : Result (Option ℕ) ScriptError) → x ≡ get_or lines r.place x → r.place < length lines → r.place < r.until → loop_words (text_words x.text.items) ≡ None
-    → at_words (text_words x.text.items) ≡ None → define_words (text_words x.text.items) ≡ None → shape_called shapes r.place (text_words x.text.items) ≡ None
+pub ended_next : {S : Type 0} (facts : Ghosts S) (verbose : Bool) (shapes : List Shape) (lines : List (ℕ × List ℕ)) (x : ℕ × List ℕ) (old new : Sketch S) (canvas : S) (r s : Reading)
+    (result : Result (Option ℕ) ScriptError) → slice_get lines r.place ≡ Some x → r.place < r.until → loop_words (text_words x.1) ≡ None
+    → at_words (text_words x.1) ≡ None → define_words (text_words x.1) ≡ None → shape_called shapes r.place (text_words x.1) ≡ None
     → s.place ≡ r.place + 1 → s.until ≡ r.until → s.blocks.items ≡ r.blocks.items → new.canvas ≡ canvas
-    → MatchResult result (λ refusal. DrawsLine facts verbose (seen x) old refusal new)
+    → MatchResult result (λ refusal. DrawsLine facts verbose (x) old refusal new)
     (λ e. ((e ≡ cut.OutOfMemory) ⊎ (e ≡ cut.WriterFailed))
-    × (facts.settles old.canvas canvas ⊎ ((y : Sketch S) × DrawsLine facts verbose (seen x) old None y × (canvas ≡ y.canvas))))
-    → AdvancesTo facts verbose shapes (progress_of (with_places (map seen lines)) old.canvas old.names old.written r) result
-    (progress_of (with_places (map seen lines)) new.canvas new.names new.written s)
-ended_next facts verbose shapes lines x old new canvas r s (Ok refusal) is below inside other neither not undrawn place until blocks has drawn =
-    let all : List (ℕ × (ℕ × List ℕ)) = with_places (map seen lines) in
-    drew_other facts verbose shapes lines x old r (progress_of all new.canvas new.names new.written s) refusal is below inside other neither not undrawn
+    × (facts.settles old.canvas canvas ⊎ ((y : Sketch S) × DrawsLine facts verbose (x) old None y × (canvas ≡ y.canvas))))
+    → AdvancesTo facts verbose shapes (progress_of (with_places lines) old.canvas old.names old.written r) result
+    (progress_of (with_places lines) new.canvas new.names new.written s)
+ended_next facts verbose shapes lines x old new canvas r s (Ok refusal) is inside other neither not undrawn place until blocks has drawn =
+    let all : List (ℕ × (ℕ × List ℕ)) = with_places lines in
+    drew_other facts verbose shapes lines x old r (progress_of all new.canvas new.names new.written s) refusal is inside other neither not undrawn
     (drawn, ap₂ (λ (i j : ℕ). lines_between all i j) place until, ap (turns_of all) blocks)
-ended_next {S} facts verbose shapes lines x old new canvas r s (Err e) is below inside other neither not undrawn place until blocks has (cause, inl settled) = (cause, inl (subst (λ (c : S). facts.settles old.canvas c) (sym has) settled))
-ended_next {S} facts verbose shapes lines x old new canvas r s (Err e) is below inside other neither not undrawn place until blocks has (cause, inr (y, drawn, at)) =
-    let all : List (ℕ × (ℕ × List ℕ)) = with_places (map seen lines) in
+ended_next {S} facts verbose shapes lines x old new canvas r s (Err e) is inside other neither not undrawn place until blocks has (cause, inl settled) = (cause, inl (subst (λ (c : S). facts.settles old.canvas c) (sym has) settled))
+ended_next {S} facts verbose shapes lines x old new canvas r s (Err e) is inside other neither not undrawn place until blocks has (cause, inr (y, drawn, at)) =
+    let all : List (ℕ × (ℕ × List ℕ)) = with_places lines in
     let last : Progress S = record { sketch = y; lines = lines_between all (r.place + 1) r.until; turns = turns_of all r.blocks.items } in (
       cause,
-      inr (last, drew_other facts verbose shapes lines x old r last None is below inside other neither not undrawn (drawn, refl, refl), has ∙ at),
+      inr (last, drew_other facts verbose shapes lines x old r last None is inside other neither not undrawn (drawn, refl, refl), has ∙ at),
     )
 
 -- ---- Many of them
@@ -149,12 +147,12 @@ ComesTo-more facts verbose shapes first mid new n reached drawn =
 -- ---- All of them
 
 -- before the first line
-pub at_start : {S : Type 0} (canvas : S) (names : Names) (w : Option (List ℕ)) (lines : List ScriptLine) (r : Reading) → scope_of names ≡ first_scope
-    → IsFirstReading (length lines) r → progress_of (with_places (map seen lines)) canvas (scope_of names) w r ≡ at_first canvas w (map seen lines)
+pub at_start : {S : Type 0} (canvas : S) (names : Names) (w : Option (List ℕ)) (lines : List (ℕ × List ℕ)) (r : Reading) → scope_of names ≡ first_scope
+    → IsFirstReading (length lines) r → progress_of (with_places lines) canvas (scope_of names) w r ≡ at_first canvas w lines
 at_start canvas names w lines r none first =
-    let all : lines_between (with_places (map seen lines)) r.place r.until ≡ with_places (map seen lines) =
-    ap₂ (λ (i j : ℕ). lines_between (with_places (map seen lines)) i j) first.place first.until ∙ all_between lines in
-    let turns : turns_of (with_places (map seen lines)) r.blocks.items ≡ [] = ap (turns_of (with_places (map seen lines))) first.blocks in
+    let all : lines_between (with_places lines) r.place r.until ≡ with_places lines =
+    ap₂ (λ (i j : ℕ). lines_between (with_places lines) i j) first.place first.until ∙ all_between lines in
+    let turns : turns_of (with_places lines) r.blocks.items ≡ [] = ap (turns_of (with_places lines)) first.blocks in
     λ i. record {
       sketch = record { canvas = canvas; names = none i; written = w };
       lines = all i;
@@ -162,8 +160,9 @@ at_start canvas names w lines r none first =
     }
 
 -- it is within the lines
-pub start_within : (count : ℕ) (r : Reading) → IsFirstReading count r → IsWithinLines count r
-start_within count r first = record {
+pub start_within : (count : ℕ) (r : Reading) → count < 2 ^ 63 → IsFirstReading count r → IsWithinLines count r
+start_within count r few first = record {
+  few = few;
   until = omega (arith, first.until);
   blocks = subst (λ (bs : List Block). All (IsBlockWithin count) bs) (sym first.blocks) (All-nil (IsBlockWithin count));
 }

@@ -1,4 +1,5 @@
--- Lines that define shapes, and lines that draw them (docs/COMMANDS.md, "Shapes").
+-- Lines that define shapes, and lines that draw them (docs/COMMANDS.md, "Shapes that a script
+-- defines").
 use Rattle.std.specs.Prelude.{ℕ, ◌==◌, if◌then◌else◌, List, [], ◌∷◌, ◌++◌, drop, length, Option, Some, None, Result, Ok, Err}
 use Rattle.map_tables.specs.Tables.{Tables}
 use Rattle.map_script.specs.Defines.{call_words, with_parameters}

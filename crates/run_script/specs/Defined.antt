@@ -1,4 +1,5 @@
--- The shapes that a script defines, and which of them a line draws (docs/COMMANDS.md, "Blocks").
+-- The shapes that a script defines, and which of them a line draws (docs/COMMANDS.md, "Shapes that a
+-- script defines").
 use Rattle.std.specs.Prelude.{ℕ, Bool, ◌+◌, ◌&&◌, nat_lt, if◌then◌else◌, List, [], ◌∷◌, drop, Option, Some, None, bytes_eq}
 use Rattle.std.specs.Option.{is_none}
 use Rattle.map_script.specs.Defines.{define_words}

@@ -1,4 +1,5 @@
--- Commands that wait to be put together, and what becomes of them when a later one is lost.
+-- Proofs, which stand here since an impl cites them: of commands that wait to be put together, and
+-- what becomes of them when a later one is lost.
 use Rattle.std.proofs.Common.{◌≡◌, ◌∙◌, ◌⊎◌, inl, inr, ℕ, true, false, List, [], ◌∷◌, ◌++◌, Option, Some, None, Result, Ok, Err, refl, sym, ap, subst, append_assoc}
 use Rattle.std.specs.Prelude.{MatchOption, is_some}
 use Rattle.std.proofs.lemmas.Bool.{true≢false}

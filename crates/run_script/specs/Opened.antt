@@ -1,4 +1,4 @@
--- The blocks that are open, and where a script has come (docs/COMMANDS.md, "Blocks").
+-- The blocks that are open, and where a script has come (docs/COMMANDS.md, "Scripts").
 use Rattle.std.specs.Prelude.{ℕ, ℤ, List, [], ◌∷◌, ◌++◌, Option, Some, None}
 use Rattle.map_script.specs.Scopes.{Scope, with_block, with_turn_name}
 use Rattle.map_script.specs.declared.names.Mark.{Mark}

@@ -1,5 +1,5 @@
 -- How far a script has been read, by the places of its lines.
-use Rattle.std.specs.Prelude.{◌≡◌, ◌⊎◌, ℕ, ◌+◌, ◌<◌, ◌≤◌, All, Bool, List, [], ◌∷◌, ◌++◌, map, Option, Some, None, Result, Ok, Err}
+use Rattle.std.specs.Prelude.{◌≡◌, ◌⊎◌, ℕ, ◌+◌, ◌<◌, ◌≤◌, ◌^◌, All, Bool, List, [], ◌∷◌, ◌++◌, map, Option, Some, None, Result, Ok, Err}
 use Rattle.map_script.specs.Scopes.{Scope, with_block}
 use Rattle.map_script.specs.declared.names.Mark.{Mark}
 use Rattle.map_script.specs.declared.placing.Placing.{Placing}
@@ -58,8 +58,9 @@ pub record IsBlockWithin (count : ℕ) (b : Block) : Type 0 where
   pub end : b.end ≤ count
   pub until : b.until ≤ count
 
--- what is read does
+-- what is read does, and the place behind the last line is a number too
 pub record IsWithinLines (count : ℕ) (r : Reading) : Type 0 where
+  pub few : count < 2 ^ 63
   pub until : r.until ≤ count
   pub blocks : All (IsBlockWithin count) r.blocks.items
 

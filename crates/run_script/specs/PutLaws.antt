@@ -1,5 +1,5 @@
--- The laws of a project with commands that wait: what is lost within a line, what a query leaves, and
--- what is put.
+-- Proofs, which stand here since an impl cites them: the laws of a project with commands that wait,
+-- what is lost within a line, what a query leaves, and what is put.
 use Rattle.std.proofs.Common.{◌≡◌, ◌∙◌, ◌⊎◌, inl, inr, ℕ, Bool, true, false, List, Option, Some, None, Result, Ok, Err, refl, sym, ap, subst}
 use Rattle.std.specs.Prelude.{MatchOption, is_some}
 use Rattle.std.specs.Io.KnownBytes.{Keeps}

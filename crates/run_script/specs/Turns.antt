@@ -1,5 +1,5 @@
 -- How blocks begin and end: which lines come next, which names hold and how lines are placed
--- (docs/COMMANDS.md, "Blocks").
+-- (docs/COMMANDS.md, "Scripts").
 use Rattle.std.specs.Prelude.{◌≡◌, ◌⊎◌, ℕ, pos, ◌+ℤ◌, int_le, int_lt, if◌then◌else◌, List, [], ◌∷◌, ◌++◌, Option, Some, None, Result, Ok, Err, MatchResult}
 use Rattle.map_tables.specs.Tables.{Tables}
 use Rattle.map_script.specs.Ats.{at_placing, at_words}

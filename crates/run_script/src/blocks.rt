@@ -1,14 +1,14 @@
 //! The blocks of a script: where they end, and whether they are in order.
-ghost use Rattle.std.specs.Prelude.{◌≡◌, ◌&&◌, ◌==◌, if◌then◌else◌, ◌+◌, ◌<◌, ◌≤◌, ◌^◌, length, map, IfSome};
+ghost use Rattle.std.specs.Prelude.{◌≡◌, ◌&&◌, ◌==◌, if◌then◌else◌, ◌+◌, ◌<◌, ◌≤◌, ◌^◌, length, IfSome};
 ghost use Rattle.map_script.specs.Loops.{closes};
 ghost use Rattle.map_script.specs.Views.{seen};
 ghost use Rattle.run_script.specs.Blocks.{lines_between, order_fault, block_len, depth_after, is_misplaced, with_places};
 
-use map_script::{ScriptLine, closes, define_words, opens};
+use map_script::{ScriptLines, closes, define_words, opens};
 
 // How many blocks are open behind a line, if so many were before it.
 fn depth_after(depth: usize, line: &[u8]) -> usize
-    requires { depth < 2 ^ 63 }
+    requires { depth + 1 < 2 ^ 64 }
     ensures value { result ≡ depth_after depth line.now }
     ensures most { result ≤ depth + 1 }
 {
@@ -29,16 +29,16 @@ fn ends_block(depth: usize, line: &[u8]) -> bool
 }
 
 /// How many of the lines from one on stand in the block that they begin: those before its `end`.
-pub fn block_len(lines: &[ScriptLine], from: usize, until: usize) -> usize
+pub fn block_len(lines: &ScriptLines, from: usize, until: usize) -> usize
     requires begins { from ≤ until }
     requires ends { until ≤ length lines.now }
     ensures len { result
-        ≡ block_len 0 (lines_between (with_places (map seen lines.now)) from until) }
+        ≡ block_len 0 (lines_between (with_places lines.now) from until) }
     ensures within { from + result ≤ until }
 {
     let mut depth = 0;
     for i in from..until {
-        let text = &lines[i].text;
+        let text = lines.line(i).text;
         if ends_block(depth, text) {
             return i - from;
         }
@@ -64,14 +64,14 @@ fn outermost(depth: usize, outer: usize, place: usize) -> usize
 }
 
 /// The place of the line at which the blocks of a script are out of order, if they are.
-pub fn order_fault(lines: &[ScriptLine]) -> Option<usize>
-    ensures place { result ≡ order_fault (map seen lines.now) }
+pub fn order_fault(lines: &ScriptLines) -> Option<usize>
+    ensures place { result ≡ order_fault lines.now }
     ensures within { IfSome result (λ p. p < length lines.now) }
 {
     let mut outer = 0;
     let mut depth = 0;
     for place in 0..lines.len() {
-        let text = &lines[place].text;
+        let text = lines.line(place).text;
         if is_misplaced(depth, text) {
             return Some(place);
         }

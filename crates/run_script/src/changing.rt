@@ -117,7 +117,7 @@ pub fn try_command<C: Canvas, W: Write>(
     alloc: Global,
     canvas: &mut C,
     names: &mut Names,
-    line: &ScriptLine,
+    line: &ScriptLine<'_>,
     text: &[u8],
     is_verbose: bool,
     writer: &mut W,
@@ -136,7 +136,7 @@ pub fn try_command<C: Canvas, W: Write>(
         Ok(numbers) => numbers,
         Err(code) => return Ok(Some(code)),
     };
-    match keep_name(alloc, names, defined_name(&line.text), numbers) {
+    match keep_name(alloc, names, defined_name(line.text), numbers) {
         Ok(()) => {}
         Err(error) => return Err(error),
     }

@@ -1,7 +1,6 @@
 //! The shapes that a script defines, and which of them a line draws.
-ghost use Rattle.std.specs.Prelude.{◌≡◌, ◌<◌, ◌+◌, ◌&&◌, ℕ, List, IfOk, IfSome, IsOkUnless, bytes_eq, length, map, nat_lt, option_copied};
+ghost use Rattle.std.specs.Prelude.{◌≡◌, ◌<◌, ◌+◌, ◌&&◌, ℕ, List, IfOk, IfSome, IsOkUnless, bytes_eq, length, nat_lt, option_copied};
 ghost use Rattle.std.specs.Option.{option_map};
-ghost use Rattle.map_script.specs.Views.{seen};
 ghost use Rattle.map_script.specs.Words.{text_words};
 ghost use Rattle.map_script.specs.declared.error.DrawError.TheVariants.{OutOfMemory};
 ghost use Rattle.run_script.specs.Blocks.{lines_between, with_places};
@@ -9,7 +8,7 @@ ghost use Rattle.run_script.specs.Defined.{shape_at, shape_called, shape_known, 
 ghost use Rattle.run_script.specs.ShapePlaces.{AreShapesWithin, IsShapeWithin, shape_among, shapes_among};
 
 use crate::blocks::block_len;
-use map_script::{DrawError, ScriptLine, define_words, defined_name, first_word};
+use map_script::{DrawError, ScriptLines, define_words, defined_name, first_word};
 use std::alloc::Global;
 
 /// A shape that a script defines.
@@ -28,12 +27,12 @@ pub struct Shape {
 // The shape that the line at a place defines; `words` is its NAME PARAM ..
 fn shape_at(
     alloc: Global,
-    lines: &[ScriptLine],
+    lines: &ScriptLines,
     place: usize,
     words: &[u8],
 ) -> Result<Shape, DrawError>
     requires { place < length lines.now }
-    ensures ok { let all = with_places (map seen lines.now) in
+    ensures ok { let all = with_places lines.now in
         IfOk result (λ shape. shape_among all shape
         ≡ shape_at place (lines_between all (place + 1) (length lines.now))
         (text_words words.now)) }
@@ -43,8 +42,9 @@ fn shape_at(
     let (name, parameters) = first_word(words);
     let name = name.to_vec(alloc)?;
     let parameters = parameters.to_vec(alloc)?;
+    let until = lines.len();
     let from = place + 1;
-    let end = from + block_len(lines, from, lines.len());
+    let end = from + block_len(lines, from, until);
     Ok(Shape {
         name,
         parameters,
@@ -58,15 +58,15 @@ fn shape_at(
 /// # Errors
 ///
 /// Only `OutOfMemory`.
-pub fn shapes_in(alloc: Global, lines: &[ScriptLine]) -> Result<Vec<Shape>, DrawError>
-    ensures ok { let all = with_places (map seen lines.now) in
+pub fn shapes_in(alloc: Global, lines: &ScriptLines) -> Result<Vec<Shape>, DrawError>
+    ensures ok { let all = with_places lines.now in
         IfOk result (λ shapes. shapes_among all shapes.items ≡ shapes_in all) }
     ensures within { IfOk result (λ shapes. AreShapesWithin (length lines.now) shapes.items) }
     ensures memory { IsOkUnless result OutOfMemory }
 {
     let mut shapes = Vec::new(alloc);
     for place in 0..lines.len() {
-        let Some(words) = define_words(&lines[place].text) else {
+        let Some(words) = define_words(lines.line(place).text) else {
             continue;
         };
         let shape = match shape_at(alloc, lines, place, words) {

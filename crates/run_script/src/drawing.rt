@@ -1,8 +1,7 @@
 //! Draws a script line by line, up to the first refused line.
-ghost use Rattle.std.specs.Prelude.{◌≡◌, ◌⊎◌, ◌<◌, if◌then◌else◌, length, map, vec_len, Some, IfNone, IfOk, IfSome};
+ghost use Rattle.std.specs.Prelude.{◌≡◌, ◌⊎◌, ◌<◌, ◌^◌, if◌then◌else◌, length, vec_len, Some, IfNone, IfOk, IfSome};
 ghost use Rattle.map_script.specs.Known.{scope_of};
 ghost use Rattle.map_script.specs.Scopes.{first_scope};
-ghost use Rattle.map_script.specs.Views.{seen};
 ghost use Rattle.run_script.specs.Blocks.{with_places};
 ghost use Rattle.run_script.specs.Canvases.{NothingWaits};
 ghost use Rattle.run_script.specs.Defined.{shapes_in};
@@ -19,7 +18,7 @@ use crate::line::draw_line;
 use crate::opening::{open_at, open_loop};
 use crate::reading::{Reading, place_at_hand};
 use crate::shape_lines::{open_shape, pass_define};
-use map_script::{DrawError, Names, ScriptLine, at_words, define_words, loop_words};
+use map_script::{DrawError, Names, ScriptLines, at_words, define_words, loop_words};
 use std::alloc::Global;
 use std::io::Write;
 use store_project::ProjectError;
@@ -37,8 +36,9 @@ pub struct Stop {
 const MORE_LINES: usize = 1_000_000;
 
 // How far a script has been read before its first line.
-fn first_reading(alloc: Global, lines: &[ScriptLine]) -> Reading
-    ensures { IsFirstReading (length lines.now) result }
+fn first_reading(alloc: Global, lines: &ScriptLines) -> Reading
+    ensures first { IsFirstReading (length lines.now) result }
+    ensures few { length lines.now < 2 ^ 63 }
 {
     Reading {
         place: 0,
@@ -52,7 +52,7 @@ fn draw_next<C: Canvas, W: Write>(
     alloc: Global,
     canvas: &mut C,
     names: &mut Names,
-    lines: &[ScriptLine],
+    lines: &ScriptLines,
     shapes: &[Shape],
     reading: &mut Reading,
     is_verbose: bool,
@@ -61,7 +61,7 @@ fn draw_next<C: Canvas, W: Write>(
     requires within { IsWithinLines (length lines.now) reading.old }
     requires shapes { AreShapesWithin (length lines.now) shapes.now }
     requires some { reading.old.place < reading.old.until }
-    ensures advanced { let all = with_places (map seen lines.now) in
+    ensures advanced { let all = with_places lines.now in
         AdvancesTo C.Canvas is_verbose (shapes_among all shapes.now)
         (progress_of all canvas.old (scope_of names.old) (W.contents writer.old) reading.old)
         result
@@ -69,21 +69,21 @@ fn draw_next<C: Canvas, W: Write>(
     ensures within { IfOk result (λ refusal.
         IfNone refusal (IsWithinLines (length lines.now) reading.new)) }
 {
-    let line = &lines[reading.place];
-    if let Some(words) = loop_words(&line.text) {
+    let line = lines.line(reading.place);
+    if let Some(words) = loop_words(line.text) {
         return Ok(open_loop(alloc, canvas, names, lines, reading, words));
     }
-    if let Some(words) = at_words(&line.text) {
+    if let Some(words) = at_words(line.text) {
         return Ok(open_at(alloc, canvas, names, lines, reading, words));
     }
-    if let Some(words) = define_words(&line.text) {
+    if let Some(words) = define_words(line.text) {
         return Ok(pass_define(names, lines, reading, words));
     }
-    if let Some(shape) = shape_called(shapes, reading.place, &line.text) {
-        return Ok(open_shape(alloc, canvas, names, lines, reading, shape, &line.text));
+    if let Some(shape) = shape_called(shapes, reading.place, line.text) {
+        return Ok(open_shape(alloc, canvas, names, lines, reading, shape, line.text));
     }
     reading.place += 1;
-    draw_line(alloc, canvas, names, line, is_verbose, writer)
+    draw_line(alloc, canvas, names, &line, is_verbose, writer)
 }
 
 // Draws the next line, or ends the innermost turn, and returns the code of a refusal.
@@ -91,7 +91,7 @@ fn advance<C: Canvas, W: Write>(
     alloc: Global,
     canvas: &mut C,
     names: &mut Names,
-    lines: &[ScriptLine],
+    lines: &ScriptLines,
     shapes: &[Shape],
     reading: &mut Reading,
     is_verbose: bool,
@@ -100,7 +100,7 @@ fn advance<C: Canvas, W: Write>(
     requires within { IsWithinLines (length lines.now) reading.old }
     requires shapes { AreShapesWithin (length lines.now) shapes.now }
     requires some { (reading.old.place < reading.old.until) ⊎ (0 < vec_len reading.old.blocks) }
-    ensures advanced { let all = with_places (map seen lines.now) in
+    ensures advanced { let all = with_places lines.now in
         AdvancesTo C.Canvas is_verbose (shapes_among all shapes.now)
         (progress_of all canvas.old (scope_of names.old) (W.contents writer.old) reading.old)
         result
@@ -165,7 +165,7 @@ fn draw_all<C: Canvas, W: Write>(
     alloc: Global,
     canvas: &mut C,
     names: &mut Names,
-    lines: &[ScriptLine],
+    lines: &ScriptLines,
     shapes: &[Shape],
     is_verbose: bool,
     writer: &mut W,
@@ -174,9 +174,9 @@ fn draw_all<C: Canvas, W: Write>(
     requires shapes { AreShapesWithin (length lines.now) shapes.now }
     requires settled { NothingWaits C.Canvas canvas.old }
     ensures drawn { EndsFrom C.Canvas is_verbose
-        (shapes_among (with_places (map seen lines.now)) shapes.now)
-        (at_first canvas.old (W.contents writer.old) (map seen lines.now))
-        (line_limit (map seen lines.now)) result canvas.new (W.contents writer.new) }
+        (shapes_among (with_places lines.now) shapes.now)
+        (at_first canvas.old (W.contents writer.old) lines.now)
+        (line_limit lines.now) result canvas.new (W.contents writer.new) }
     ensures place { IfOk result (λ stop. IfSome stop (λ s. s.place < length lines.now)) }
 {
     let mut reading = first_reading(alloc, lines);
@@ -224,16 +224,16 @@ fn draw_shaped<C: Canvas, W: Write>(
     alloc: Global,
     canvas: &mut C,
     names: &mut Names,
-    lines: &[ScriptLine],
+    lines: &ScriptLines,
     is_verbose: bool,
     writer: &mut W,
 ) -> Result<Option<Stop>, ScriptError>
     requires first { scope_of names.old ≡ first_scope }
     requires settled { NothingWaits C.Canvas canvas.old }
-    ensures drawn { let all = with_places (map seen lines.now) in
+    ensures drawn { let all = with_places lines.now in
         EndsFrom C.Canvas is_verbose (shapes_in all)
-        (at_first canvas.old (W.contents writer.old) (map seen lines.now))
-        (line_limit (map seen lines.now)) result canvas.new (W.contents writer.new) }
+        (at_first canvas.old (W.contents writer.old) lines.now)
+        (line_limit lines.now) result canvas.new (W.contents writer.new) }
     ensures place { IfOk result (λ stop. IfSome stop (λ s. s.place < length lines.now)) }
 {
     match shapes_in(alloc, lines) {
@@ -264,13 +264,13 @@ pub fn draw<C: Canvas, W: Write>(
     alloc: Global,
     canvas: &mut C,
     names: &mut Names,
-    lines: &[ScriptLine],
+    lines: &ScriptLines,
     is_verbose: bool,
     writer: &mut W,
 ) -> Result<Option<Stop>, ScriptError>
     requires first { scope_of names.old ≡ first_scope }
     requires settled { NothingWaits C.Canvas canvas.old }
-    ensures drawn { IsScriptDrawn C.Canvas is_verbose (map seen lines.now) result
+    ensures drawn { IsScriptDrawn C.Canvas is_verbose lines.now result
         canvas.old (W.contents writer.old) canvas.new (W.contents writer.new) }
     ensures place { IfOk result (λ stop. IfSome stop (λ s. s.place < length lines.now)) }
 {

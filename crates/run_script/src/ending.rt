@@ -1,13 +1,12 @@
 //! The end of a block: its loop's next turn, or the lines behind it.
-ghost use Rattle.std.specs.Prelude.{◌≡◌, ◌<◌, IfNone, length, map, vec_len};
+ghost use Rattle.std.specs.Prelude.{◌≡◌, ◌<◌, IfNone, length, vec_len};
 ghost use Rattle.map_script.specs.Known.{scope_of};
-ghost use Rattle.map_script.specs.Views.{seen};
 ghost use Rattle.run_script.specs.Blocks.{with_places};
 ghost use Rattle.run_script.specs.Places.{IsWithinLines, counting_of, position_of, turns_of};
 ghost use Rattle.run_script.specs.Turns.{EndsTurn, next_count};
 
 use crate::reading::{Block, Count, Reading, enter};
-use map_script::{Names, ScriptLine};
+use map_script::{Names, ScriptLines};
 use std::alloc::Global;
 
 // What is counted next, if there is a next turn.
@@ -28,12 +27,12 @@ fn next_count(count: Option<Count>) -> Option<Count>
 pub fn end_turn(
     alloc: Global,
     names: &mut Names,
-    lines: &[ScriptLine],
+    lines: &ScriptLines,
     reading: &mut Reading,
 ) -> Option<u16>
     requires within { IsWithinLines (length lines.now) reading.old }
     requires some { 0 < vec_len reading.old.blocks }
-    ensures ended { let all = with_places (map seen lines.now) in
+    ensures ended { let all = with_places lines.now in
         EndsTurn (scope_of names.old) (turns_of all reading.old.blocks.items) result
         (position_of all (scope_of names.new) reading.new) }
     ensures within { IfNone result (IsWithinLines (length lines.now) reading.new) }

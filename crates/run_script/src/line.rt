@@ -29,7 +29,7 @@ fn draw_other<C: Canvas, W: Write>(
     alloc: Global,
     canvas: &mut C,
     names: &mut Names,
-    line: &ScriptLine,
+    line: &ScriptLine<'_>,
     is_verbose: bool,
     writer: &mut W,
 ) -> Result<Option<u16>, ScriptError>
@@ -42,11 +42,11 @@ fn draw_other<C: Canvas, W: Write>(
         × DrawsOther C.Canvas is_verbose (seen line.now) old None new
         × (canvas.new ≡ new.canvas)))) }
 {
-    let text = match resolve(alloc, names, canvas.maps().current(), &line.text) {
+    let text = match resolve(alloc, names, canvas.maps().current(), line.text) {
         Ok(text) => text,
         Err(error) => return Ok(Some(error.code())),
     };
-    if asks::<C>(&line.text, &text) {
+    if asks::<C>(line.text, &text) {
         canvas.tell(alloc, &text, writer)
     } else {
         try_command(alloc, canvas, names, line, &text, is_verbose, writer)
@@ -73,7 +73,7 @@ pub fn draw_line<C: Canvas, W: Write>(
     alloc: Global,
     canvas: &mut C,
     names: &mut Names,
-    line: &ScriptLine,
+    line: &ScriptLine<'_>,
     is_verbose: bool,
     writer: &mut W,
 ) -> Result<Option<u16>, ScriptError>
@@ -86,7 +86,7 @@ pub fn draw_line<C: Canvas, W: Write>(
         × DrawsLine C.Canvas is_verbose (seen line.now) old None new
         × (canvas.new ≡ new.canvas)))) }
 {
-    match let_words(&line.text) {
+    match let_words(line.text) {
         Some(words) => Ok(draw_let(alloc, canvas, names, words)),
         None => draw_other(alloc, canvas, names, line, is_verbose, writer),
     }

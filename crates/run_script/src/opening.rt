@@ -1,10 +1,9 @@
 //! The lines that open blocks: `for NAME FROM TO` and `at X Y [ANGLE]`.
-ghost use Rattle.std.specs.Prelude.{◌≡◌, ◌+◌, int_le, ◌<◌, ◌^◌, IfNone, IfOk, IsOkUnless, Some, length, map};
+ghost use Rattle.std.specs.Prelude.{◌≡◌, ◌+◌, int_le, ◌<◌, ◌^◌, IfNone, IfOk, IsOkUnless, Some, length};
 ghost use Rattle.map_script.specs.Ats.{at_placing};
 ghost use Rattle.map_script.specs.Known.{scope_of};
 ghost use Rattle.map_script.specs.Loops.{loop_range};
 ghost use Rattle.map_script.specs.Scopes.{mark_of};
-ghost use Rattle.map_script.specs.Views.{seen};
 ghost use Rattle.map_script.specs.Words.{text_words};
 ghost use Rattle.map_script.specs.declared.error.DrawError.TheVariants.{OutOfMemory};
 ghost use Rattle.map_tables.specs.Projects.{current_map};
@@ -16,7 +15,9 @@ ghost use Rattle.run_script.specs.declared.reading.Block.{Block};
 use crate::blocks::block_len;
 use crate::canvas::Canvas;
 use crate::reading::{Block, Count, Reading, enter};
-use map_script::{DrawError, Names, Placing, Range, ScriptLine, at_placing, loop_name, loop_range};
+use map_script::{
+    DrawError, Names, Placing, Range, ScriptLines, at_placing, loop_name, loop_range,
+};
 use std::alloc::Global;
 
 // Enters the block that the next line opens, and which places lines so; its `end` stands at a place.
@@ -98,13 +99,13 @@ pub fn open_loop<C: Canvas>(
     alloc: Global,
     canvas: &C,
     names: &mut Names,
-    lines: &[ScriptLine],
+    lines: &ScriptLines,
     reading: &mut Reading,
     words: &[u8],
 ) -> Option<u16>
     requires within { IsWithinLines (length lines.now) reading.old }
     requires some { reading.old.place < reading.old.until }
-    ensures opened { let all = with_places (map seen lines.now) in
+    ensures opened { let all = with_places lines.now in
         let words = text_words words.now in
         OpensBlock (after_loop (scope_of names.old) reading.old.place
         (lines_between all (reading.old.place + 1) reading.old.until)
@@ -135,13 +136,13 @@ pub fn open_at<C: Canvas>(
     alloc: Global,
     canvas: &C,
     names: &mut Names,
-    lines: &[ScriptLine],
+    lines: &ScriptLines,
     reading: &mut Reading,
     words: &[u8],
 ) -> Option<u16>
     requires within { IsWithinLines (length lines.now) reading.old }
     requires some { reading.old.place < reading.old.until }
-    ensures opened { let all = with_places (map seen lines.now) in
+    ensures opened { let all = with_places lines.now in
         OpensBlock (after_at (scope_of names.old) reading.old.place
         (lines_between all (reading.old.place + 1) reading.old.until)
         (turns_of all reading.old.blocks.items)

@@ -1,14 +1,13 @@
 //! How far a script has been read: its next line, and the blocks that are open.
-ghost use Rattle.std.specs.Prelude.{◌≡◌, ◌⊎◌, ◌<◌, [], IfOk, IfSome, IsOkUnless, MatchOption, length, map, vec_len};
+ghost use Rattle.std.specs.Prelude.{◌≡◌, ◌⊎◌, ◌<◌, [], IfOk, IfSome, IsOkUnless, MatchOption, length, vec_len};
 ghost use Rattle.map_script.specs.Known.{scope_of};
-ghost use Rattle.map_script.specs.Views.{seen};
 ghost use Rattle.map_script.specs.declared.error.DrawError.TheVariants.{OutOfMemory};
 ghost use Rattle.run_script.specs.Blocks.{lines_between, with_places};
 ghost use Rattle.run_script.specs.Drawn.{IsAtPlace};
 ghost use Rattle.run_script.specs.Places.{Enters, IsWithinLines, counting_of, turns_of};
 ghost use Rattle.run_script.specs.Turns.{counted_names};
 
-use map_script::{DrawError, Mark, Names, Placing, ScriptLine};
+use map_script::{DrawError, Mark, Names, Placing, ScriptLines};
 use std::alloc::Global;
 
 /// What a loop counts.
@@ -53,9 +52,9 @@ pub struct Reading {
 }
 
 /// The place of the next line, or of the line whose block ends next, if the script isn't over.
-pub fn place_at_hand(lines: &[ScriptLine], reading: &Reading) -> Option<usize>
+pub fn place_at_hand(lines: &ScriptLines, reading: &Reading) -> Option<usize>
     requires { IsWithinLines (length lines.now) reading.now }
-    ensures place { let all = with_places (map seen lines.now) in
+    ensures place { let all = with_places lines.now in
         let left = lines_between all reading.now.place reading.now.until in
         let turns = turns_of all reading.now.blocks.items in
         MatchOption result ((left ≡ []) × (turns ≡ [])) (λ place. IsAtPlace left turns place) }

@@ -320,27 +320,27 @@ pub fn reason_of(
     alloc: Global,
     maps: &Maps,
     names: &Names,
-    line: &ScriptLine,
+    line: &ScriptLine<'_>,
     code: u16,
 ) -> Result<String, AllocError> {
     if code == DrawError::OpenBlock.code() || code == DrawError::TooManyLines.code() {
         return says(alloc, code);
     }
-    if let Some(words) = let_words(&line.text) {
+    if let Some(words) = let_words(line.text) {
         return reason_of_let(alloc, maps.current(), names, words, code);
     }
-    if let Some(words) = loop_words(&line.text) {
+    if let Some(words) = loop_words(line.text) {
         return reason_of_loop(alloc, maps.current(), names, words, code);
     }
-    if let Some(words) = at_words(&line.text) {
+    if let Some(words) = at_words(line.text) {
         return reason_of_at(alloc, maps.current(), names, words, code);
     }
-    if define_words(&line.text).is_some() {
+    if define_words(line.text).is_some() {
         return reason_of_define(alloc, code);
     }
-    let text = match resolve(alloc, names, maps.current(), &line.text) {
+    let text = match resolve(alloc, names, maps.current(), line.text) {
         Ok(text) => text,
-        Err(error) => return reason_of_reference(alloc, maps.current(), names, &line.text, error),
+        Err(error) => return reason_of_reference(alloc, maps.current(), names, line.text, error),
     };
     match str::from_utf8(&text) {
         Ok(text) => match shape_head_in(first_word(text).as_bytes()) {

@@ -59,7 +59,7 @@ fn write_reason<W: Write>(
 // Writes both lines.
 fn write_both<W: Write>(
     script: &str,
-    line: &ScriptLine,
+    line: &ScriptLine<'_>,
     code: u16,
     name: &str,
     reason: &str,
@@ -75,7 +75,7 @@ fn write_both<W: Write>(
         Ok(()) => {}
         Err(error) => return Err(error),
     }
-    match write_text(&line.text, writer) {
+    match write_text(line.text, writer) {
         Ok(()) => {}
         Err(error) => return Err(error),
     }
@@ -93,7 +93,7 @@ pub fn write_refused<W: Write>(
     maps: &Maps,
     names: &Names,
     script: &str,
-    line: &ScriptLine,
+    line: &ScriptLine<'_>,
     code: u16,
     writer: &mut W,
 ) -> Result<(), ScriptError>

@@ -1,8 +1,7 @@
 //! The lines that define shapes, `define NAME PARAM ..`, and those that draw them, `NAME WORD ..`.
-ghost use Rattle.std.specs.Prelude.{◌≡◌, ◌+◌, ◌<◌, ◌^◌, IfNone, IfOk, IsOkUnless, drop, length, map};
+ghost use Rattle.std.specs.Prelude.{◌≡◌, ◌+◌, ◌<◌, ◌^◌, IfNone, IfOk, IsOkUnless, drop, length};
 ghost use Rattle.map_script.specs.Defines.{call_words, define_fault};
 ghost use Rattle.map_script.specs.Known.{scope_of};
-ghost use Rattle.map_script.specs.Views.{seen};
 ghost use Rattle.map_script.specs.Words.{text_words};
 ghost use Rattle.map_script.specs.declared.error.DrawError.TheVariants.{OutOfMemory};
 ghost use Rattle.map_tables.specs.Projects.{current_map};
@@ -16,7 +15,7 @@ use crate::canvas::Canvas;
 use crate::defined::Shape;
 use crate::reading::{Block, Reading, enter};
 use map_script::{
-    DrawError, Names, ScriptLine, call_words, define_fault, first_word, give_parameters,
+    DrawError, Names, ScriptLines, call_words, define_fault, first_word, give_parameters,
 };
 use std::alloc::Global;
 
@@ -27,13 +26,13 @@ const DEEPEST: usize = 64;
 /// code of a refusal.
 pub fn pass_define(
     names: &Names,
-    lines: &[ScriptLine],
+    lines: &ScriptLines,
     reading: &mut Reading,
     words: &[u8],
 ) -> Option<u16>
     requires within { IsWithinLines (length lines.now) reading.old }
     requires some { reading.old.place < reading.old.until }
-    ensures opened { let all = with_places (map seen lines.now) in
+    ensures opened { let all = with_places lines.now in
         OpensBlock (after_define (scope_of names.now)
         (lines_between all (reading.old.place + 1) reading.old.until)
         (turns_of all reading.old.blocks.items) (define_fault (text_words words.now)))
@@ -52,7 +51,7 @@ pub fn pass_define(
 fn enter_shape(
     alloc: Global,
     names: &mut Names,
-    lines: &[ScriptLine],
+    lines: &ScriptLines,
     reading: &mut Reading,
     shape: &Shape,
     words: &[u8],
@@ -60,7 +59,7 @@ fn enter_shape(
     requires within { IsWithinLines (length lines.now) reading.old }
     requires some { reading.old.place < reading.old.until }
     requires shape { IsShapeWithin (length lines.now) shape.now }
-    ensures ok { let all = with_places (map seen lines.now) in
+    ensures ok { let all = with_places lines.now in
         let r = reading.old in
         let left = lines_between all (r.place + 1) r.until in
         IfOk result (λ _. position_of all (scope_of names.new) reading.new
@@ -96,7 +95,7 @@ pub fn open_shape<C: Canvas>(
     alloc: Global,
     canvas: &C,
     names: &mut Names,
-    lines: &[ScriptLine],
+    lines: &ScriptLines,
     reading: &mut Reading,
     shape: &Shape,
     line: &[u8],
@@ -104,7 +103,7 @@ pub fn open_shape<C: Canvas>(
     requires within { IsWithinLines (length lines.now) reading.old }
     requires some { reading.old.place < reading.old.until }
     requires shape { IsShapeWithin (length lines.now) shape.now }
-    ensures opened { let all = with_places (map seen lines.now) in
+    ensures opened { let all = with_places lines.now in
         OpensBlock (after_drawing (scope_of names.old) reading.old.place
         (lines_between all (reading.old.place + 1) reading.old.until)
         (turns_of all reading.old.blocks.items) (shape_among all shape.now)

@@ -23,9 +23,10 @@ fn cleans_a_script(rt: HostRuntime) -> Result<(), Fail> {
     let lines = script_lines(rt.alloc(), SCRIPT)?;
     same(&rt, &lines.len(), &LINES.len());
     let mut wanted = LINES.iter();
-    for line in &lines {
+    for place in 0..lines.len() {
+        let line = lines.line(place);
         let want = wanted.next();
-        assert!(rt; want.is_some_and(|it| it.0 == line.number && it.1 == line.text.as_slice()));
+        assert!(rt; want.is_some_and(|it| it.0 == line.number && it.1 == line.text));
     }
     Ok(())
 }

@@ -1,7 +1,7 @@
 //! Scripts, drawn onto maps in memory, and what is reported about a refused line.
 
 use crate::expect::same;
-use map_script::{Names, ScriptLine, script_lines};
+use map_script::{Names, ScriptLines, script_lines};
 use run_script::{Canvas, Draft, draw, write_refused};
 use std::alloc::Global;
 use std::test::Fail;
@@ -9,7 +9,7 @@ use std::test::Fail;
 // Draws lines: the output, and what is reported about the refused line.
 fn draw_lines(
     alloc: Global,
-    lines: &[ScriptLine],
+    lines: &ScriptLines,
     verbose: bool,
 ) -> Result<(Vec<u8>, Vec<u8>), Fail> {
     let mut draft = Draft::new(alloc);
@@ -18,13 +18,13 @@ fn draw_lines(
     let mut faults = Vec::new(alloc);
     let stop = draw(alloc, &mut draft, &mut names, lines, verbose, &mut out)?;
     if let Some(stop) = stop {
-        let line = &lines[stop.place];
+        let line = lines.line(stop.place);
         write_refused(
             alloc,
             draft.maps(),
             &names,
             "level.txt",
-            line,
+            &line,
             stop.code,
             &mut faults,
         )?;

@@ -1,25 +1,20 @@
-use Rattle.std.proofs.Common.{◌≡◌, ◌∙◌, ◌+◌, ◌<◌, ◌≤◌, ◌&&◌, ◌==◌, Bool, false, List, [], Option, None, Some, ℕ, cond, get_or, length, map, ap, ap₂, arith, refl, sym}
-use Rattle.std.specs.Prelude.{zero, suc}
+use Rattle.std.proofs.Common.{◌≡◌, ◌∙◌, ◌+◌, ◌<◌, ◌≤◌, ◌&&◌, ◌==◌, Bool, false, List, [], Option, None, Some, ℕ, cond, length, ap, ap₂, arith, refl, sym}
+use Rattle.std.specs.Prelude.{zero, suc, slice_get}
 use Rattle.std.proofs.lemmas.Bool.Decides.{nat_tests}
 use Rattle.map_script.specs.Views.{seen}
-use Rattle.map_script.specs.declared.script.ScriptLine.{ScriptLine}
 use Rattle.run_script.specs.Blocks.{lines_between, order_fault, depth_after, fault_within, is_misplaced, with_places}
 use Rattle.run_script.proofs.PlacedLines.{all_between, next_line, none_left}
 use Rattle.run_script.proofs.blocks.order_fault.Goals as goal
 
 -- one line more
-fault_at : (lines : List ScriptLine) (i until outer depth further deeper : ℕ) (x : ScriptLine) (text word : List ℕ) (misplaced : Bool) → x ≡ get_or lines i x
-    → i < length lines → i < until → text ≡ (get_or lines i x).text.items → word ≡ (get_or lines i x).text.items → misplaced ≡ is_misplaced depth text
-    → further ≡ cond (depth == 0) i outer → deeper ≡ depth_after depth word
-    → fault_within outer depth (lines_between (with_places (map seen lines)) i until)
-    ≡ cond misplaced (Some i) (fault_within further deeper (lines_between (with_places (map seen lines)) (i + 1) until))
-fault_at lines i until outer depth further deeper x text word misplaced is below inside same also wrong begun so =
-    let rest : List (ℕ × (ℕ × List ℕ)) = lines_between (with_places (map seen lines)) (i + 1) until in
-    let here : x.text.items ≡ text = ap (λ (l : ScriptLine). l.text.items) is ∙ sym same in
-    let there : x.text.items ≡ word = ap (λ (l : ScriptLine). l.text.items) is ∙ sym also in
-    ap (fault_within outer depth) (next_line lines i until x is below inside)
-    ∙ ap₂ (λ (t w : List ℕ). cond (is_misplaced depth t) (Some i) (fault_within (cond (depth == 0) i outer) (depth_after depth w) rest)) here there
-    ∙ ap (λ t. cond t (Some i) (fault_within (cond (depth == 0) i outer) (depth_after depth word) rest)) (sym wrong)
+fault_at : (lines : List (ℕ × List ℕ)) (i until outer depth further deeper : ℕ) (x : ℕ × List ℕ) (misplaced : Bool) → slice_get lines i ≡ Some x
+    → i < until → misplaced ≡ is_misplaced depth x.1 → further ≡ cond (depth == 0) i outer → deeper ≡ depth_after depth x.1
+    → fault_within outer depth (lines_between (with_places lines) i until)
+    ≡ cond misplaced (Some i) (fault_within further deeper (lines_between (with_places lines) (i + 1) until))
+fault_at lines i until outer depth further deeper x misplaced is inside wrong begun so =
+    let rest : List (ℕ × (ℕ × List ℕ)) = lines_between (with_places lines) (i + 1) until in
+    ap (fault_within outer depth) (next_line lines i until x is inside)
+    ∙ ap (λ t. cond t (Some i) (fault_within (cond (depth == 0) i outer) (depth_after depth x.1) rest)) (sym wrong)
     ∙ ap₂ (λ (o d : ℕ). cond misplaced (Some i) (fault_within o d rest)) (sym begun) (sym so)
 
 some_open : (d : ℕ) → (suc d == 0) ≡ false
@@ -52,28 +47,29 @@ loop-place-init c = record {
 
 pub returns-then-is_misplaced-clause-place : goal.returns-then-is_misplaced-clause-place
 returns-then-is_misplaced-clause-place c =
-    let lines : List ScriptLine = c.args.lines.now in
+    let lines : List (ℕ × List ℕ) = c.args.lines.now in
     let i = c.loop-place.place in
+    let within : i < length lines = omega (arith, c.loop-place-test.true, c.len-place-end.ensures.count) in
     let outer = c.loop-place.outer in
     let depth = c.loop-place.depth in
-    let text : List ℕ = c.deref.result.now in
-    let rest : List (ℕ × (ℕ × List ℕ)) = lines_between (with_places (map seen lines)) (i + 1) (length lines) in
-    sym (fault_at lines i (length lines) outer depth (cond (depth == 0) i outer) (depth_after depth text) c.index-lines-place.result text text c.is_misplaced.result
-    c.index-lines-place.is c.loop-place-test.true c.loop-place-test.true c.deref.ensures.value c.deref.ensures.value c.is_misplaced.ensures refl refl
-    ∙ ap (λ t. cond t (Some i) (fault_within (cond (depth == 0) i outer) (depth_after depth text) rest)) c.if-is_misplaced.true)
+    let x = seen c.line.result in
+    let rest : List (ℕ × (ℕ × List ℕ)) = lines_between (with_places lines) (i + 1) (length lines) in
+    sym (fault_at lines i (length lines) outer depth (cond (depth == 0) i outer) (depth_after depth x.1) x c.is_misplaced.result
+    c.line.ensures within c.is_misplaced.ensures refl refl
+    ∙ ap (λ t. cond t (Some i) (fault_within (cond (depth == 0) i outer) (depth_after depth x.1) rest)) c.if-is_misplaced.true)
     ∙ c.loop-place.invariant.fault
 
 pub loop-place-preserved : goal.loop-place-preserved
 loop-place-preserved c =
-    let lines : List ScriptLine = c.args.lines.now in
+    let lines : List (ℕ × List ℕ) = c.args.lines.now in
     let i = c.loop-place.place in
-    let rest : List (ℕ × (ℕ × List ℕ)) = lines_between (with_places (map seen lines)) (i + 1) (length lines) in
+    let within : i < length lines = omega (arith, c.loop-place-test.true, c.len-place-end.ensures.count) in
+    let rest : List (ℕ × (ℕ × List ℕ)) = lines_between (with_places lines) (i + 1) (length lines) in
     let further = c.outermost-outer.result in
     let deeper = c.depth_after-depth.result in
     let more =
-    fault_at lines i (length lines) c.loop-place.outer c.loop-place.depth further deeper c.index-lines-place.result c.deref.result.now
-    c.deref-in-loop-place.result.now c.is_misplaced.result c.index-lines-place.is c.loop-place-test.true c.loop-place-test.true c.deref.ensures.value
-    c.deref-in-loop-place.ensures.value c.is_misplaced.ensures c.outermost-outer.ensures c.depth_after-depth.ensures.value
+    fault_at lines i (length lines) c.loop-place.outer c.loop-place.depth further deeper (seen c.line.result) c.is_misplaced.result c.line.ensures
+    within c.is_misplaced.ensures c.outermost-outer.ensures c.depth_after-depth.ensures.value
     ∙ ap (λ t. cond t (Some i) (fault_within further deeper rest)) c.if-is_misplaced.false in
     record {
       fault = sym more ∙ c.loop-place.invariant.fault;
@@ -83,12 +79,14 @@ loop-place-preserved c =
 
 pub returns-then-depth-eq0-clause-place : goal.returns-then-depth-eq0-clause-place
 returns-then-depth-eq0-clause-place c =
-    let lines : List ScriptLine = c.args.lines.now in
-    whole c.loop-place.outer c.loop-place.depth (lines_between (with_places (map seen lines)) c.loop-place.place (length lines)) (order_fault (map seen lines))
-    c.loop-place.invariant.fault (none_left c.loop-place.place (length lines) (with_places (map seen lines)) c.loop-place-test.false) c.if-depth-eq0.true
+    let lines : List (ℕ × List ℕ) = c.args.lines.now in
+    let over : length lines ≤ c.loop-place.place = omega (arith, c.loop-place-test.false, c.len-place-end.ensures.count) in
+    whole c.loop-place.outer c.loop-place.depth (lines_between (with_places lines) c.loop-place.place (length lines)) (order_fault lines)
+    c.loop-place.invariant.fault (none_left c.loop-place.place (length lines) (with_places lines) over) c.if-depth-eq0.true
 
 pub returns-else-depth-eq0-clause-place : goal.returns-else-depth-eq0-clause-place
 returns-else-depth-eq0-clause-place c =
-    let lines : List ScriptLine = c.args.lines.now in
-    unclosed c.loop-place.outer c.loop-place.depth (lines_between (with_places (map seen lines)) c.loop-place.place (length lines)) (order_fault (map seen lines))
-    c.loop-place.invariant.fault (none_left c.loop-place.place (length lines) (with_places (map seen lines)) c.loop-place-test.false) c.if-depth-eq0.false
+    let lines : List (ℕ × List ℕ) = c.args.lines.now in
+    let over : length lines ≤ c.loop-place.place = omega (arith, c.loop-place-test.false, c.len-place-end.ensures.count) in
+    unclosed c.loop-place.outer c.loop-place.depth (lines_between (with_places lines) c.loop-place.place (length lines)) (order_fault lines)
+    c.loop-place.invariant.fault (none_left c.loop-place.place (length lines) (with_places lines) over) c.if-depth-eq0.false

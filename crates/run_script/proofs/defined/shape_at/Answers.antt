@@ -1,5 +1,4 @@
-use Rattle.std.proofs.Common.{◌≡◌, ◌∙◌, ◌+◌, List, ℕ, ap, drop, length, map, refl, rules, sym}
-use Rattle.map_script.specs.Views.{seen}
+use Rattle.std.proofs.Common.{◌≡◌, ◌∙◌, ◌+◌, ◌≤◌, List, ℕ, ap, arith, drop, length, refl, rules, sym}
 use Rattle.map_script.specs.Words.{first_word, text_words}
 use Rattle.run_script.specs.Blocks.{block_len, block_lines, lines_between, with_places}
 use Rattle.run_script.proofs.PlacedLines.{body_is}
@@ -7,13 +6,16 @@ use Rattle.run_script.proofs.defined.shape_at.Goals as goal
 
 pub returns-clause-ok : goal.returns-clause-ok
 returns-clause-ok c =
-    let all : List (ℕ × (ℕ × List ℕ)) = with_places (map seen c.args.lines.now) in
+    let all : List (ℕ × (ℕ × List ℕ)) = with_places c.args.lines.now in
     let from = c.args.place + 1 in
     let until = length c.args.lines.now in
     let len = c.block_len.result in
     let name : c.in_ok-name.name.items ≡ first_word (text_words c.args.words.now) = search rules in
     let parameters : text_words c.in_ok-parameters.parameters.items ≡ drop 1 (text_words c.args.words.now) = search rules in
-    let end = ap (λ (n : ℕ). from + n) c.block_len.ensures.len in
+    let is : len ≡ block_len 0 (lines_between all from until) =
+    c.block_len.ensures.len ∙ ap (λ (u : ℕ). block_len 0 (lines_between all from u)) c.len-until.ensures.count in
+    let within : from + len ≤ until = omega (arith, c.block_len.ensures.within, c.len-until.ensures.count) in
+    let end = ap (λ (n : ℕ). from + n) is in
     let body : lines_between all from (from + len) ≡ block_lines (lines_between all from until) =
-    sym (body_is all from len until (from + len) c.block_len.ensures.len c.block_len.ensures.within refl) in
+    sym (body_is all from len until (from + len) is within refl) in
     λ i. record { name = name i; parameters = parameters i; end = end i; body = body i }

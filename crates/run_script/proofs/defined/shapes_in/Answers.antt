@@ -1,9 +1,8 @@
-use Rattle.std.proofs.Common.{◌≡◌, ◌∙◌, ◌+◌, ◌++◌, ◌∷◌, [], List, None, Some, ℕ, ap, length, map, refl, rules, subst, sym}
+use Rattle.std.proofs.Common.{◌≡◌, ◌∙◌, ◌+◌, ◌<◌, arith, ◌++◌, ◌∷◌, [], List, None, Some, ℕ, ap, length, refl, rules, subst, sym}
 use Rattle.std.proofs.lemmas.List.Elements.{All-nil, All-push}
 use Rattle.map_script.specs.Defines.{define_words}
 use Rattle.map_script.specs.Views.{seen}
 use Rattle.map_script.specs.Words.{text_words}
-use Rattle.map_script.specs.declared.script.ScriptLine.{ScriptLine}
 use Rattle.run_script.specs.Blocks.{lines_between, with_places}
 use Rattle.run_script.specs.Defined as spec
 use Rattle.run_script.specs.Defined.{shape_at, shapes_in}
@@ -16,7 +15,7 @@ use Rattle.run_script.proofs.defined.shapes_in.Goals as goal
 pub loop-place-init : goal.loop-place-init
 loop-place-init c =
     let lines = c.args.lines.now in
-    let all : List (ℕ × (ℕ × List ℕ)) = with_places (map seen lines) in
+    let all : List (ℕ × (ℕ × List ℕ)) = with_places lines in
     let none : c.new-shapes.result.items ≡ [] = search rules in
     record {
       so_far = ap (λ (ss : List Shape). shapes_among all ss ++ shapes_in (lines_between all 0 (length lines))) none ∙ ap shapes_in (all_between lines);
@@ -26,12 +25,13 @@ loop-place-init c =
 pub loop-place-preserved-in_default : goal.loop-place-preserved-in_default
 loop-place-preserved-in_default c =
     let lines = c.args.lines.now in
-    let all : List (ℕ × (ℕ × List ℕ)) = with_places (map seen lines) in
-    let x = c.index-lines-place.result in
-    let none : define_words (text_words x.text.items) ≡ None = ap (λ (y : ScriptLine). define_words (text_words y.text.items)) c.index-lines-place.is ∙ ap (λ (l : List ℕ). define_words (text_words l)) (sym c.deref.ensures.value) ∙ c.in_default.ensures in
+    let all : List (ℕ × (ℕ × List ℕ)) = with_places lines in
+    let x = seen c.line.result in
+    let within : c.loop-place.place < length lines = omega (arith, c.loop-place-test.true, c.len-place-end.ensures.count) in
+    let none : define_words (text_words x.1) ≡ None = c.in_default.ensures in
     record {
       so_far =
-          ap (λ (ss : List spec.Shape). shapes_among all c.loop-place.shapes.items ++ ss) (sym (not_defined lines c.loop-place.place x c.index-lines-place.is c.loop-place-test.true none))
+          ap (λ (ss : List spec.Shape). shapes_among all c.loop-place.shapes.items ++ ss) (sym (not_defined lines c.loop-place.place x c.line.ensures within none))
           ∙ c.loop-place.invariant.so_far;
       within = c.loop-place.invariant.within;
     }
@@ -39,17 +39,18 @@ loop-place-preserved-in_default c =
 pub loop-place-preserved : goal.loop-place-preserved
 loop-place-preserved c =
     let lines = c.args.lines.now in
-    let all : List (ℕ × (ℕ × List ℕ)) = with_places (map seen lines) in
+    let all : List (ℕ × (ℕ × List ℕ)) = with_places lines in
     let i = c.loop-place.place in
-    let x = c.index-lines-place.result in
+    let x = seen c.line.result in
+    let within : i < length lines = omega (arith, c.loop-place-test.true, c.len-place-end.ensures.count) in
     let words : List (List ℕ) = text_words c.in-Some.words.now in
-    let some : define_words (text_words x.text.items) ≡ Some words = ap (λ (y : ScriptLine). define_words (text_words y.text.items)) c.index-lines-place.is ∙ ap (λ (l : List ℕ). define_words (text_words l)) (sym c.deref.ensures.value) ∙ c.in-Some.ensures in
+    let some : define_words (text_words x.1) ≡ Some words = c.in-Some.ensures in
     let rest = shapes_in (lines_between all (i + 1) (length lines)) in
     record {
       so_far =
           shapes_more all c.loop-place.shapes.items c.push.new.self.items c.in-Ok.shape (shape_at i (lines_between all (i + 1) (length lines)) words) rest
           c.in_ok-push.ensures.items c.in-Ok.ensures.ok
-          ∙ ap (λ (ss : List spec.Shape). shapes_among all c.loop-place.shapes.items ++ ss) (sym (defined_next lines i x words c.index-lines-place.is c.loop-place-test.true some))
+          ∙ ap (λ (ss : List spec.Shape). shapes_among all c.loop-place.shapes.items ++ ss) (sym (defined_next lines i x words c.line.ensures within some))
           ∙ c.loop-place.invariant.so_far;
       within =
           subst (λ (ss : List Shape). AreShapesWithin (length lines) ss) (sym c.in_ok-push.ensures.items)

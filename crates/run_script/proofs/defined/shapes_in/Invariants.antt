@@ -1,5 +1,4 @@
-use Rattle.std.proofs.Common.{◌≡◌, ◌++◌, length, map}
-use Rattle.map_script.specs.Views.{seen}
+use Rattle.std.proofs.Common.{◌≡◌, ◌++◌, length}
 use Rattle.run_script.specs.Blocks.{lines_between, with_places}
 use Rattle.run_script.specs.Defined.{shapes_in}
 use Rattle.run_script.specs.ShapePlaces.{AreShapesWithin, shapes_among}
@@ -8,7 +7,7 @@ use Rattle.run_script.proofs.defined.shapes_in.Given as goal
 -- the shapes so far, and those of the lines left
 abbrev pub invariant-loop-place : goal.invariant-loop-place
 invariant-loop-place l = record {
-  so_far : shapes_among (with_places (map seen l.lines)) l.shapes.items ++ shapes_in (lines_between (with_places (map seen l.lines)) l.place (length l.lines))
-      ≡ shapes_in (with_places (map seen l.lines));
+  so_far : shapes_among (with_places l.lines) l.shapes.items ++ shapes_in (lines_between (with_places l.lines) l.place (length l.lines))
+      ≡ shapes_in (with_places l.lines);
   within : AreShapesWithin (length l.lines) l.shapes.items;
 }

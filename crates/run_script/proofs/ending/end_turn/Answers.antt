@@ -1,9 +1,8 @@
-use Rattle.std.proofs.Common.{◌≡◌, ◌∙◌, ◌+◌, ◌++◌, ◌∷◌, [], List, ℕ, Option, None, Some, ap, arith, length, map, refl, sym, subst}
+use Rattle.std.proofs.Common.{◌≡◌, ◌∙◌, ◌+◌, ◌++◌, ◌∷◌, [], List, ℕ, Option, None, Some, ap, arith, length, refl, sym, subst}
 use Rattle.std.proofs.lemmas.List.Elements.{All-pop}
 use Rattle.map_script.specs.Errors.{code_of}
 use Rattle.map_script.specs.Known.{scope_of}
 use Rattle.map_script.specs.Scopes.{Scope}
-use Rattle.map_script.specs.Views.{seen}
 use Rattle.run_script.specs.Blocks.{lines_between, with_places}
 use Rattle.run_script.specs.Turns.{EndsTurn}
 use Rattle.run_script.specs.Places.{Enters, IsBlockWithin, position_of, turns_of}
@@ -13,7 +12,7 @@ use Rattle.run_script.proofs.ending.end_turn.Goals as goal
 
 pub returns-in_default-next_count-clause-ended : goal.returns-in_default-next_count-clause-ended
 returns-in_default-next_count-clause-ended c =
-    let all : List (ℕ × (ℕ × List ℕ)) = with_places (map seen c.args.lines.now) in
+    let all : List (ℕ × (ℕ × List ℕ)) = with_places c.args.lines.now in
     let b : Block = c.in-Some.block in
     let bs : List Block = c.args.reading.now.blocks.items in
     let outer : List Block = c.pop.new.self.items in
@@ -25,11 +24,11 @@ pub returns-in_default-next_count-clause-within : goal.returns-in_default-next_c
 returns-in_default-next_count-clause-within c =
     let (outer, b) = All-pop (IsBlockWithin (length c.args.lines.now)) c.args.reading.now.blocks.items c.pop.new.self.items (Some c.in-Some.block)
     c.in-Some.ensures.items c.requires.within.blocks in
-    record { until = b.until; blocks = outer }
+    record { few = c.requires.within.few; until = b.until; blocks = outer }
 
 pub returns-in-Ok-clause-ended : goal.returns-in-Ok-clause-ended
 returns-in-Ok-clause-ended c =
-    let all : List (ℕ × (ℕ × List ℕ)) = with_places (map seen c.args.lines.now) in
+    let all : List (ℕ × (ℕ × List ℕ)) = with_places c.args.lines.now in
     let b : Block = c.in-Some.block in
     let outer : List Block = c.pop.new.self.items in
     turned all (scope_of c.args.names.now) (scope_of c.enter.new.names) c.args.reading.now.blocks.items outer b _ c.in-Some-next_count.count _ c.enter.new.reading
@@ -40,10 +39,10 @@ pub returns-in-Ok-clause-within : goal.returns-in-Ok-clause-within
 returns-in-Ok-clause-within c =
     let (outer, b) = All-pop (IsBlockWithin (length c.args.lines.now)) c.args.reading.now.blocks.items c.pop.new.self.items (Some c.in-Some.block)
     c.in-Some.ensures.items c.requires.within.blocks in
-    entered_within (length c.args.lines.now) (scope_of c.release.new.self) (scope_of c.enter.new.names) _ c.pop.new.self.items _ c.enter.new.reading c.in-Ok.ensures.ok outer
+    entered_within (length c.args.lines.now) c.requires.within.few (scope_of c.release.new.self) (scope_of c.enter.new.names) _ c.pop.new.self.items _ c.enter.new.reading c.in-Ok.ensures.ok outer
     (record { place = b.place; end = b.end; until = b.until })
 
 pub returns-in-Err-clause-ended : goal.returns-in-Err-clause-ended
 returns-in-Err-clause-ended c =
-    let all : List (ℕ × (ℕ × List ℕ)) = with_places (map seen c.args.lines.now) in
+    let all : List (ℕ × (ℕ × List ℕ)) = with_places c.args.lines.now in
     not-turned all (scope_of c.args.names.now) c.args.reading.now.blocks.items c.pop.new.self.items c.in-Some.block c.code.result _ c.in-Some.ensures.items (c.code.ensures ∙ ap code_of c.in-Err.ensures.memory)

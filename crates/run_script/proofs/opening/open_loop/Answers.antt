@@ -1,7 +1,6 @@
-use Rattle.std.proofs.Common.{◌≡◌, ◌∙◌, ◌+◌, ◌≤◌, inl, List, ℕ, Ok, Some, ap, arith, map, refl, sym}
+use Rattle.std.proofs.Common.{◌≡◌, ◌∙◌, ◌+◌, ◌≤◌, inl, List, ℕ, Ok, Some, ap, arith, refl, sym}
 use Rattle.map_script.specs.Known.{scope_of}
 use Rattle.map_script.specs.Loops.{loop_range}
-use Rattle.map_script.specs.Views.{seen}
 use Rattle.map_script.specs.Words.{text_words}
 use Rattle.map_tables.specs.Projects.{current_map}
 use Rattle.map_tables.specs.Tables.{Tables}
@@ -14,7 +13,7 @@ use Rattle.run_script.proofs.opening.open_loop.Goals as goal
 
 pub returns-in-Ok-open_first-clause-opened : goal.returns-in-Ok-open_first-clause-opened
 returns-in-Ok-open_first-clause-opened g c =
-    let all : List (ℕ × (ℕ × List ℕ)) = with_places (map seen c.args.lines.now) in
+    let all : List (ℕ × (ℕ × List ℕ)) = with_places c.args.lines.now in
     let r = c.args.reading.now in
     let s = c.open_first.new.reading in
     let words = text_words c.args.words.now in
