@@ -8,7 +8,7 @@ use Rattle.store_project.specs.Places.{IsAllowed}
 use Rattle.store_project.specs.States.{State}
 use Rattle.store_project.specs.declared.error.ProjectError.{ProjectError}
 use Rattle.run_edit.specs.Answers.{RepliesInMemory}
-use Rattle.cli_program.specs.Drawing.{IsDrawnInto, IsScriptTried}
+use Rattle.cli_program.specs.Drawing.{IsDrawnInto, IsScriptTried, IsTriedOntoSome}
 use Rattle.run_edit.specs.Editing.{told_of}
 use Rattle.run_edit.specs.Inspections.{IsInspected}
 use Rattle.cli_program.specs.LevelNames.{IsListed}
@@ -86,8 +86,11 @@ IsPerformed facts (Lint file map iwad only except) how reader-old reader-new wri
     × Keeps reader-old reader-new
 IsPerformed facts (Draw file script verbose) how reader-old reader-new writer-old writer-new =
     IsDrawnInto facts (is_some script) verbose how reader-old reader-new writer-old writer-new
-IsPerformed facts (TryScript script verbose) how reader-old reader-new writer-old writer-new =
+IsPerformed facts (TryScript script None verbose) how reader-old reader-new writer-old writer-new =
     IsScriptTried verbose how writer-old writer-new × Keeps reader-old reader-new
+IsPerformed facts (TryScript script (Some over) verbose) how reader-old reader-new writer-old
+    writer-new =
+    IsTriedOntoSome verbose how writer-old writer-new × Keeps reader-old reader-new
 IsPerformed facts (Dump file names exact) how reader-old reader-new writer-old writer-new =
     IsDoneWithSome (Dump file names exact) how writer-old writer-new × Keeps reader-old reader-new
 IsPerformed facts (Salvage file) how reader-old reader-new writer-old writer-new =

@@ -3,11 +3,10 @@ use Rattle.std.specs.Prelude.{◌≡◌, ◌⊎◌, ℕ, Bool, true, false, List
 use Rattle.std.specs.Io.KnownBytes.{Appends, Consumes, IsAtEnd, Keeps}
 use Rattle.lump_text.specs.Shown.{shown_lines, shown_text}
 use Rattle.store_disk.specs.declared.disk.Disk.{Ghosts}
-use Rattle.map_tables.specs.Projects.{ProjectMaps, empty_project}
 use Rattle.map_script.specs.Scripts.{script_lines}
 use Rattle.store_project.specs.States.{State}
 use Rattle.store_project.specs.declared.error.ProjectError.{ProjectError}
-use Rattle.run_script.specs.Canvases.{draft_canvas, project_canvas}
+use Rattle.run_script.specs.Canvases.{Drafted, draft_canvas, draft_of, first_draft, project_canvas}
 use Rattle.run_script.specs.Waiting.{Drawing, first_drawing}
 use Rattle.run_script.specs.Drawn.{IsScriptDrawn}
 use Rattle.run_script.specs.Refused.{TellsStop}
@@ -97,13 +96,37 @@ TellsStopFrom {S = S} facts verbose name script old writer-old faults-old faults
     × (told : Result (Unit {0}) ScriptError)
     × TellsRefused told name (script_lines script) (Ok (Some stop)) faults-old faults-new
 
--- ---- Memory and a file
+-- ---- Memory
 
--- the lines of the script were tried over the empty project
+-- the lines of the script were tried over these maps
+abbrev pub IsTriedOver : Drafted → Bool → List ℕ → Result ℕ Refusal → Option (List ℕ)
+    → Option (List ℕ) → Type 0
+IsTriedOver first verbose script how writer-old writer-new =
+    (last : Drafted) × IsDrawnOnto draft_canvas verbose script how first last writer-old writer-new
+
+-- the same over the empty project
 abbrev pub IsTriedOn : Bool → List ℕ → Result ℕ Refusal → Option (List ℕ) → Option (List ℕ) → Type 0
-IsTriedOn verbose script how writer-old writer-new =
-    (last : ProjectMaps)
-    × IsDrawnOnto draft_canvas verbose script how empty_project last writer-old writer-new
+IsTriedOn = IsTriedOver first_draft
+
+-- all lines of the script were drawn from these maps on to those, whatever its queries answered
+abbrev pub DrawsWhole : List ℕ → Drafted → Drafted → Type 0
+DrawsWhole text old new =
+    (answers : Option (List ℕ))
+    × IsScriptDrawn draft_canvas false (script_lines text) (Ok None) old None new answers
+
+-- a line of the script is refused if its lines are drawn from these maps on
+abbrev pub IsRefusedFrom : Drafted → List ℕ → Type 0
+IsRefusedFrom old text =
+    (stop : Stop) × (new : Drafted) × (answers : Option (List ℕ))
+    × IsScriptDrawn draft_canvas false (script_lines text) (Ok (Some stop)) old None new answers
+
+-- how it ends where not all lines can be drawn from these maps on: one is refused, or memory is
+-- lacking
+abbrev pub IsHeldBack : Drafted → List ℕ → Result ℕ Refusal → Type 0
+IsHeldBack old text (Ok status) = (status ≡ 3) × IsRefusedFrom old text
+IsHeldBack old text (Err refusal) = refusal ≡ of.Lines OutOfMemory
+
+-- ---- A file
 
 -- the script is all that the input gave, or all that a file gave, which tells no bytes
 abbrev pub IsInput : Bool → List ℕ → Option (List ℕ) → Option (List ℕ) → Type 0
@@ -141,16 +164,27 @@ abbrev pub EndsUnopened : Result ℕ Refusal → Option (List ℕ) → Option (L
 EndsUnopened how writer-old writer-new =
     (e : ProjectError) × (how ≡ Err (of.Project e)) × IsOfOpening e × Keeps writer-old writer-new
 
--- the lines of the script were drawn onto some project
+-- Not all lines of the script can be drawn onto the project, so none was, and nothing was written; or
+-- all can be drawn over its maps, and they were drawn onto it.
+abbrev pub IsDrawnOrLeft : {D : Type 0} → Ghosts D → Bool → List ℕ → Result ℕ Refusal → State D
+    → D → Option (List ℕ) → Option (List ℕ) → Type 0
+IsDrawnOrLeft {D = D} facts verbose script how project disk writer-old writer-new =
+    (IsHeldBack (draft_of project) script how × (disk ≡ project.disk)
+    × Keeps writer-old writer-new)
+    ⊎ ((tried : Drafted) × DrawsWhole script (draft_of project) tried
+    × (last : Drawing D) × (disk ≡ last.project.disk)
+    × IsDrawnOnto (project_canvas facts) verbose script how (first_drawing project) last
+    writer-old writer-new)
+
+-- the same of some project
 abbrev pub IsDrawnOntoSome : {D : Type 0} → Ghosts D → Bool → List ℕ → Result ℕ Refusal
     → Option (List ℕ) → Option (List ℕ) → Type 0
 IsDrawnOntoSome {D = D} facts verbose script how writer-old writer-new =
-    (first : State D) × (last : Drawing D) × (first.must_reopen ≡ false)
-    × IsDrawnOnto (project_canvas facts) verbose script how (first_drawing first) last
-    writer-old writer-new
+    (project : State D) × (disk : D) × (project.must_reopen ≡ false)
+    × IsDrawnOrLeft facts verbose script how project disk writer-old writer-new
 
 -- the script can't be read; or it was read whole, and no project was opened, or its lines were
--- drawn onto one
+-- drawn onto one, or left
 abbrev pub IsDrawnInto : {D : Type 0} → Ghosts D → Bool → Bool → Result ℕ Refusal → Option (List ℕ)
     → Option (List ℕ) → Option (List ℕ) → Option (List ℕ) → Type 0
 IsDrawnInto facts from_file verbose how reader-old reader-new writer-old writer-new =
@@ -173,3 +207,11 @@ abbrev pub IsScriptTried : Bool → Result ℕ Refusal → Option (List ℕ) →
 IsScriptTried verbose how writer-old writer-new =
     EndsUnread how writer-old writer-new
     ⊎ ((script : List ℕ) × IsTriedOn verbose script how writer-old writer-new)
+
+-- a script can't be read, or no project opened; or the lines of the script were tried over some
+-- project's maps
+abbrev pub IsTriedOntoSome : Bool → Result ℕ Refusal → Option (List ℕ) → Option (List ℕ) → Type 0
+IsTriedOntoSome verbose how writer-old writer-new =
+    EndsUnread how writer-old writer-new ⊎ EndsUnopened how writer-old writer-new
+    ⊎ ((script : List ℕ) × (maps : Drafted)
+    × IsTriedOver maps verbose script how writer-old writer-new)

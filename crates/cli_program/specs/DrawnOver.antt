@@ -3,21 +3,27 @@ use Rattle.std.specs.Prelude.{◌≡◌, ◌⊎◌, ℕ, Bool, List, Option, Res
 use Rattle.std.specs.Io.KnownBytes.{Keeps}
 use Rattle.store_disk.specs.declared.disk.Disk.{Ghosts}
 use Rattle.store_project.specs.States.{State}
-use Rattle.run_script.specs.Canvases.{project_canvas}
-use Rattle.run_script.specs.Waiting.{Drawing, first_drawing}
+use Rattle.run_script.specs.Canvases.{draft_of}
 use Rattle.run_edit.specs.Recovery.{IsOnlyRead}
-use Rattle.cli_program.specs.Drawing.{IsDrawnOnto}
+use Rattle.cli_program.specs.Drawing.{IsDrawnOrLeft, IsTriedOver}
 use Rattle.cli_program.specs.Sources.{IsOpenedFrom, NotOpened}
 use Rattle.cli_refusals.specs.declared.refusal.Refusal.{Refusal}
 
 -- No project was opened, and nothing written; or the lines of the script were drawn onto the one
--- that the disk's bytes stand for, and the disk is as its calls left it.
+-- that the disk's bytes stand for, or left, and the disk is as its calls left it.
 abbrev pub IsDrawnOver : {D : Type 0} → Ghosts D → D → D → Bool → List ℕ → Result ℕ Refusal
     → Option (List ℕ) → Option (List ℕ) → Type 0
 IsDrawnOver {D = D} facts before after verbose script how writer-old writer-new =
     (NotOpened facts before after how × IsOnlyRead facts before after
     × Keeps writer-old writer-new)
-    ⊎ ((first : State D) × (last : Drawing D) × IsOpenedFrom facts before first
-    × (after ≡ last.project.disk)
-    × IsDrawnOnto (project_canvas facts) verbose script how (first_drawing first) last
-    writer-old writer-new)
+    ⊎ ((project : State D) × IsOpenedFrom facts before project
+    × IsDrawnOrLeft facts verbose script how project after writer-old writer-new)
+
+-- the same, but the lines were only tried over the project's maps, and the disk was only read
+abbrev pub IsTriedOverDisk : {D : Type 0} → Ghosts D → D → D → Bool → List ℕ → Result ℕ Refusal
+    → Option (List ℕ) → Option (List ℕ) → Type 0
+IsTriedOverDisk {D = D} facts before after verbose script how writer-old writer-new =
+    IsOnlyRead facts before after
+    × ((NotOpened facts before after how × Keeps writer-old writer-new)
+    ⊎ ((project : State D) × IsOpenedFrom facts before project
+    × IsTriedOver (draft_of project) verbose script how writer-old writer-new))

@@ -16,7 +16,7 @@ is_over_source request = false
 -- may be one, about levels that are built anew, or about what can be salvaged
 abbrev pub tells_beside : Request → Bool
 tells_beside (Draw file script verbose) = true
-tells_beside (TryScript script verbose) = true
+tells_beside (TryScript script over verbose) = true
 tells_beside (Salvage file) = true
 tells_beside (Rebuild wad out maps) = true
 tells_beside request = is_over_source request
@@ -31,7 +31,7 @@ is_over_wad request = false
 -- salvage, of a dump and of levels that are built anew none
 abbrev pub IsQuiet : Request → ℕ → Type 0
 IsQuiet (Draw file script verbose) status = status ≡ 0
-IsQuiet (TryScript script verbose) status = status ≡ 0
+IsQuiet (TryScript script over verbose) status = status ≡ 0
 IsQuiet (Check file map) status = status ≡ 0
 IsQuiet (Lint file map iwad only except) status = status ≡ 0
 IsQuiet (Picture file map out numbers nodes lint) status = status ≡ 0

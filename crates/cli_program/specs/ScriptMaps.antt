@@ -2,19 +2,15 @@
 -- place of a project").
 use Rattle.std.specs.Prelude.{◌≡◌, ◌⊎◌, ◌==◌, ◌&&◌, ◌+◌, ℕ, Bool, false, List, Option, None, Result, Ok, Err, codes, option_map, slice_get, unwrap_or}
 use Rattle.std.specs.Io.KnownBytes.{Keeps}
-use Rattle.map_tables.specs.Projects.{MapsView, ProjectMaps, empty_project, project_of}
+use Rattle.map_tables.specs.Projects.{MapsView, ProjectMaps, project_of}
 use Rattle.map_tables.specs.Tables.{Tables, count_of}
 use Rattle.map_tables.specs.declared.kind.Kind.TheVariants.{Vertex, Sector, Side, Line, Thing}
-use Rattle.map_script.specs.Scripts.{script_lines}
-use Rattle.run_edit.specs.Answers.{ChangesBy}
-use Rattle.run_edit.specs.declared.limits.TheConstants.{LONGEST_BODY}
 use Rattle.run_edit.specs.declared.error.EditorError.TheVariants.{OutOfMemory}
-use Rattle.run_script.specs.Canvases.{draft_canvas}
-use Rattle.run_script.specs.Drawn.{IsScriptDrawn}
+use Rattle.run_script.specs.Canvases.{ChangesDraft, Drafted, draft_canvas, first_draft}
 use Rattle.run_script.specs.Lines.{OneOf}
 use Rattle.cli_print.specs.Picturing.{is_called}
 use Rattle.cli_print.specs.Reading.{ReadsAll}
-use Rattle.cli_program.specs.Drawing.{IsUnreadOf, TellsStopFrom}
+use Rattle.cli_program.specs.Drawing.{DrawsWhole, IsUnreadOf, TellsStopFrom}
 use Rattle.cli_refusals.specs.declared.refusal.Refusal.{Refusal}
 use Rattle.cli_refusals.specs.declared.refusal.Refusal.TheVariants as of
 
@@ -35,28 +31,23 @@ begins_untouched p = unwrap_or (option_map is_untouched (slice_get p.maps 0)) fa
 
 -- the same maps; but an empty MAP01 before them is dropped, by the command that refuses to drop the
 -- current map
-abbrev pub IsWithoutUntouched : ProjectMaps → ProjectMaps → Type 0
+abbrev pub IsWithoutUntouched : Drafted → Drafted → Type 0
 IsWithoutUntouched old new =
-    OneOf (begins_untouched old)
-    ((outcome : Result ℕ ℕ) × ChangesBy LONGEST_BODY old (codes "drop-map MAP01") outcome new)
+    OneOf (begins_untouched old.maps)
+    ((outcome : Result ℕ ℕ) × ChangesDraft old (codes "drop-map MAP01") outcome new)
     (new ≡ old)
-
--- all lines of the script were drawn from these maps on to those, whatever its queries answered
-abbrev pub DrawsWhole : List ℕ → ProjectMaps → ProjectMaps → Type 0
-DrawsWhole text old new =
-    (answers : Option (List ℕ))
-    × IsScriptDrawn draft_canvas false (script_lines text) (Ok None) old None new answers
 
 -- the maps are those that the script draws over the empty project
 abbrev pub AreDrawnBy : List ℕ → ProjectMaps → Type 0
 AreDrawnBy text p =
-    (last : ProjectMaps) × DrawsWhole text empty_project last × IsWithoutUntouched last p
+    (last left : Drafted) × DrawsWhole text first_draft last × IsWithoutUntouched last left
+    × (p ≡ left.maps)
 
 -- ---- How it ends
 
 -- not all lines of the script were drawn from these maps on: one was refused and told, or there was
 -- no memory
-abbrev pub IsStoppedFrom : ProjectMaps → List ℕ → List ℕ → Result ℕ Refusal → Option (List ℕ)
+abbrev pub IsStoppedFrom : Drafted → List ℕ → List ℕ → Result ℕ Refusal → Option (List ℕ)
     → Option (List ℕ) → Type 0
 IsStoppedFrom old name text (Ok status) faults-old faults-new =
     (status ≡ 3) × TellsStopFrom draft_canvas false name text old None faults-old faults-new
@@ -66,7 +57,7 @@ IsStoppedFrom old name text (Err refusal) faults-old faults-new = refusal ≡ of
 abbrev pub IsStopped : List ℕ → List ℕ → Result ℕ Refusal → Option (List ℕ) → Option (List ℕ)
     → Type 0
 IsStopped name text how faults-old faults-new =
-    IsStoppedFrom empty_project name text how faults-old faults-new
+    IsStoppedFrom first_draft name text how faults-old faults-new
 
 -- the maps are those that all that the reader gave draws, and nothing was told
 abbrev pub IsReadDrawn : Option (List ℕ) → Option (List ℕ) → ProjectMaps → Option (List ℕ)

@@ -1,12 +1,13 @@
 //! The request `draw`: the lines of a script, drawn onto a disk's project, or tried over maps in memory.
 ghost use Rattle.std.specs.Prelude.{◌≡◌, ◌≤◌, ◌<◌, ◌⊎◌, None, Ok, length, IfErr, IfOk, IfSome, MatchOption};
 ghost use Rattle.std.specs.Io.KnownBytes.{Keeps};
-ghost use Rattle.cli_program.specs.Drawing.{IsDrawnOnto, IsHandedOn, IsStopTold, IsTriedOn, ShowsStop, TellsRefused, TellsStopFrom, stop_status};
+ghost use Rattle.cli_program.specs.Drawing.{DrawsWhole, IsDrawnOnto, IsHandedOn, IsHeldBack, IsStopTold, IsTriedOn, IsTriedOver, ShowsStop, TellsRefused, TellsStopFrom, stop_status};
 ghost use Rattle.map_script.specs.Views.{seen};
-ghost use Rattle.run_script.specs.Canvases.{NothingWaits};
+ghost use Rattle.map_tables.specs.Projects.{body_len, project_of};
+ghost use Rattle.run_script.specs.Canvases.{Drafted, NothingWaits, draft_of};
 ghost use Rattle.run_script.specs.declared.error.ScriptError.TheVariants.{OutOfMemory};
-ghost use Rattle.cli_program.specs.DrawnOver.{IsDrawnOver};
-ghost use Rattle.cli_program.specs.ScriptMaps.{DrawsWhole, IsStoppedFrom};
+ghost use Rattle.cli_program.specs.DrawnOver.{IsDrawnOver, IsTriedOverDisk};
+ghost use Rattle.cli_program.specs.ScriptMaps.{IsStoppedFrom};
 
 use crate::over_disk::{HandedBack, not_opened, open_project};
 use cli_refusals::{DONE, Refusal};
@@ -18,6 +19,7 @@ use run_script::{Canvas, Draft, ProjectCanvas, ScriptError, Stop, write_refused}
 use std::alloc::Global;
 use std::io::{self, Write};
 use store_disk::Disk;
+use store_project::Project;
 
 // The status if a line was refused.
 const STOPPED: u8 = 3;
@@ -166,8 +168,30 @@ fn draw_onto<C: Canvas, W: Write, F: Write>(
     how
 }
 
-/// Draws a script onto the project of a disk, line by line up to the first refused one, which is reported on
-/// `faults`. Each command that was done is on the disk. Answers of queries are written.
+// Tries a script over a project's maps in memory, and returns how the request ends if not all lines can be drawn. A
+// refused one is reported on `faults`.
+#[inline(never)]
+fn rehearse<D: Disk, F: Write>(
+    alloc: Global,
+    project: &Project<D>,
+    script: Script<'_>,
+    faults: &mut F,
+) -> Option<Result<u8, Refusal>>
+    ensures tried { MatchOption result
+        (((tried : Drafted) × DrawsWhole script.entry.text.now (draft_of project.now) tried)
+        × Keeps (F.contents faults.old) (F.contents faults.new))
+        (λ how. IsHeldBack (draft_of project.now) script.entry.text.now how) }
+    ensures small { IfSome result (λ how. IfOk how (λ s. s ≤ 3)) }
+{
+    let Ok(mut draft) = Draft::over(alloc, project.maps(), project.cap()) else {
+        return Some(Err(Refusal::Lines(EditorError::OutOfMemory)));
+    };
+    draw_whole(alloc, script.name, script.text, &mut draft, faults)
+}
+
+/// Draws a script onto the project of a disk, if all its lines can be drawn onto the project's maps: they are tried in
+/// memory first. If one is refused, it is reported on `faults`, and nothing is drawn. If the disk fails, what was put
+/// on it before stays. Answers of queries are written.
 #[inline(never)]
 pub fn draw<D: Disk, W: Write, F: Write>(
     alloc: Global,
@@ -185,6 +209,15 @@ pub fn draw<D: Disk, W: Write, F: Write>(
         Ok(project) => project,
         Err(refused) => return not_opened(refused),
     };
+    match rehearse(alloc, &project, script, faults) {
+        Some(how) => {
+            return HandedBack {
+                how,
+                disk: project.into_disk(),
+            };
+        }
+        None => {}
+    }
     let mut canvas = ProjectCanvas::new(project);
     let how = draw_onto(alloc, &mut canvas, script, writer, faults);
     let project = canvas.into_project();
@@ -210,6 +243,54 @@ pub fn try_script<W: Write, F: Write>(
 {
     let mut draft = Draft::new(alloc);
     draw_onto(alloc, &mut draft, script, writer, faults)
+}
+
+/// Tries a script over a copy of the maps of a disk's project, line by line up to the first refused one, which is
+/// reported on `faults`. Answers of queries are written.
+#[inline(never)]
+pub fn try_over<D: Disk, W: Write, F: Write>(
+    alloc: Global,
+    disk: D,
+    script: Script<'_>,
+    writer: &mut W,
+    faults: &mut F,
+) -> HandedBack<D>
+    ensures small { IfOk result.how (λ s. s ≤ 3) }
+    ensures tried { IsTriedOverDisk D.Disk disk result.disk script.entry.is_verbose
+        script.entry.text.now result.how (W.contents writer.old) (W.contents writer.new) }
+    ensures quiet { result.how ≡ Ok 0 → Keeps (F.contents faults.old) (F.contents faults.new) }
+{
+    let project = match open_project(alloc, disk) {
+        Ok(project) => project,
+        Err(refused) => return not_opened(refused),
+    };
+    let how = try_copy(alloc, project.maps(), project.cap(), script, writer, faults);
+    HandedBack {
+        how,
+        disk: project.into_disk(),
+    }
+}
+
+// Tries a script over a copy of these maps, whose body may be as long as `cap` says.
+fn try_copy<W: Write, F: Write>(
+    alloc: Global,
+    maps: &Maps,
+    cap: u32,
+    script: Script<'_>,
+    writer: &mut W,
+    faults: &mut F,
+) -> Result<u8, Refusal>
+    requires { body_len (project_of maps.now) ≤ cap }
+    ensures small { IfOk result (λ s. s ≤ 3) }
+    ensures tried { IsTriedOver (record { maps = project_of maps.now; cap = cap })
+        script.entry.is_verbose script.entry.text.now result
+        (W.contents writer.old) (W.contents writer.new) }
+    ensures quiet { result ≡ Ok 0 → Keeps (F.contents faults.old) (F.contents faults.new) }
+{
+    match Draft::over(alloc, maps, cap) {
+        Ok(mut draft) => draw_onto(alloc, &mut draft, script, writer, faults),
+        Err(_) => Err(Refusal::Lines(EditorError::OutOfMemory)),
+    }
 }
 
 /// Draws a script onto maps in memory as a whole, or returns how a request ends if not all lines were drawn. A refused

@@ -1,12 +1,12 @@
 //! The requests that make a project or change one, and `dump --salvage`, over the file at a path.
 ghost use Rattle.std.specs.Prelude.{◌≡◌, ◌≤◌, false, Ok, IfErr, IfOk, is_some};
 ghost use Rattle.std.specs.Io.KnownBytes.{Keeps};
-ghost use Rattle.cli_program.specs.Drawing.{IsDrawnInto};
+ghost use Rattle.cli_program.specs.Drawing.{IsDrawnInto, IsTriedOntoSome};
 ghost use Rattle.cli_program.specs.Salvaging.{IsSalvagedInto};
 ghost use Rattle.cli_program.specs.Deeds.{IsCreated, IsEdited};
 ghost use Rattle.cli_refusals.specs.declared.refusal.Refusal.{Refusal};
 
-use crate::draw_request::{Script, draw};
+use crate::draw_request::{Script, draw, try_over};
 use crate::over_disk::{create, edit};
 use crate::salvage_request::salvage_lines;
 use crate::script_file::read_all;
@@ -210,6 +210,76 @@ where
     };
     match fs::open(rt, name) {
         Ok(mut file) => draw_read(rt, path, name, is_verbose, &mut file, writer, faults, why),
+        Err(error) => {
+            why.beside = Some(Cause::System(error));
+            Err(Refusal::Lines(EditorError::ReaderFailed))
+        }
+    }
+}
+
+// Reads a script with this name to its end, and tries it over the maps of the project in the file at the path.
+fn try_read<E, R, W, F>(
+    rt: &E,
+    path: &str,
+    name: &str,
+    is_verbose: bool,
+    reader: &mut R,
+    writer: &mut W,
+    faults: &mut F,
+    why: &mut Causes,
+) -> Result<u8, Refusal>
+where
+    E: AllocGlobal + Files,
+    E::File: FileExt + Hold,
+    R: Read,
+    W: Write,
+    F: Write,
+    ensures small { IfOk result (λ s. s ≤ 3) }
+    ensures tried { IsTriedOntoSome is_verbose result
+        (W.contents writer.old) (W.contents writer.new) }
+    ensures quiet { result ≡ Ok 0 → Keeps (F.contents faults.old) (F.contents faults.new) }
+{
+    let text = match read_all(rt.alloc(), reader, &mut why.beside) {
+        Ok(text) => text,
+        Err(refusal) => return Err(refusal),
+    };
+    let file = match file_at(rt, path, Access::Reads, why) {
+        Ok(file) => file,
+        Err(refusal) => return Err(refusal),
+    };
+    let disk = FileDisk::new(&file, false);
+    let script = Script {
+        name,
+        text: &text,
+        is_verbose,
+    };
+    let how = try_over(rt.alloc(), disk, script, writer, faults).how;
+    ended_over(&file, how, why)
+}
+
+/// Tries the script in the file at `script` over the maps of the project in the file at the path, which stays as it is;
+/// or notes why a file can't be opened or read.
+pub fn try_onto<E, W, F>(
+    rt: &E,
+    path: &str,
+    script: &str,
+    is_verbose: bool,
+    writer: &mut W,
+    faults: &mut F,
+    why: &mut Causes,
+) -> Result<u8, Refusal>
+where
+    E: AllocGlobal + Files,
+    E::File: FileExt + Hold,
+    W: Write,
+    F: Write,
+    ensures small { IfOk result (λ s. s ≤ 3) }
+    ensures tried { IsTriedOntoSome is_verbose result
+        (W.contents writer.old) (W.contents writer.new) }
+    ensures quiet { result ≡ Ok 0 → Keeps (F.contents faults.old) (F.contents faults.new) }
+{
+    match fs::open(rt, script) {
+        Ok(mut file) => try_read(rt, path, script, is_verbose, &mut file, writer, faults, why),
         Err(error) => {
             why.beside = Some(Cause::System(error));
             Err(Refusal::Lines(EditorError::ReaderFailed))

@@ -11,7 +11,7 @@ ghost use Rattle.cli_refusals.specs.declared.refusal.Refusal.{Refusal};
 use crate::examining::examine;
 use crate::listing::list_levels;
 use crate::names_beside::tell_names;
-use crate::over_file::{create_file, draw_file, edit_file, salvage_file};
+use crate::over_file::{create_file, draw_file, edit_file, salvage_file, try_onto};
 use crate::over_source::{build_file, check_file, dump_file, lint_file, picture_file};
 use crate::rebuild_request::rebuild;
 use crate::script_file::try_file;
@@ -228,9 +228,16 @@ where
                 why,
             )
         }
-        Request::TryScript { script, verbose } => {
+        Request::TryScript {
+            script,
+            over,
+            verbose,
+        } => {
             let path = script.as_str();
-            try_file(rt, path, *verbose, writer, faults, &mut why.file)
+            match over {
+                Some(over) => try_onto(rt, over.as_str(), path, *verbose, writer, faults, why),
+                None => try_file(rt, path, *verbose, writer, faults, &mut why.file),
+            }
         }
         Request::Salvage { file } => salvage_file(rt, file.as_str(), writer, faults, why),
         Request::Rebuild { wad, out, maps } => {

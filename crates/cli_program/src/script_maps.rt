@@ -1,6 +1,7 @@
 //! The maps that a script draws in memory, where it stands in place of a project.
 ghost use Rattle.std.specs.Prelude.{◌≡◌, ◌≤◌, IfOk, IfSome, MatchOption};
-ghost use Rattle.map_tables.specs.Projects.{empty_project, project_of};
+ghost use Rattle.map_tables.specs.Projects.{project_of};
+ghost use Rattle.run_script.specs.Canvases.{first_draft};
 ghost use Rattle.cli_program.specs.ScriptMaps.{IsReadDrawn, IsWithoutUntouched, NotReadDrawn, begins_untouched, is_untouched, item_count};
 
 use crate::draw_request::draw_whole;
@@ -63,9 +64,9 @@ pub fn draw_maps<R: Read, F: Write>(
     faults: &mut F,
     why: &mut Option<Cause>,
 ) -> Option<Result<u8, Refusal>>
-    requires { draft.old ≡ empty_project }
+    requires { draft.old ≡ first_draft }
     ensures maps { MatchOption result
-        (IsReadDrawn (R.remaining reader.old) (R.remaining reader.new) draft.new
+        (IsReadDrawn (R.remaining reader.old) (R.remaining reader.new) draft.new.maps
         (F.contents faults.old) (F.contents faults.new))
         (λ how. NotReadDrawn name.now (R.remaining reader.old) (R.remaining reader.new) how
         (F.contents faults.old) (F.contents faults.new)) }

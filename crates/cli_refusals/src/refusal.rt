@@ -229,7 +229,10 @@ fn paths_of(request: &Request) -> (&str, &str) {
         | Request::Dump { file, .. }
         | Request::Salvage { file } => (file.as_str(), ""),
         Request::Inspect { wad, .. } | Request::Levels { wad } => (wad.as_str(), ""),
-        Request::TryScript { script, .. } => (script.as_str(), ""),
+        Request::TryScript { script, over, .. } => match over {
+            Some(over) => (over.as_str(), script.as_str()),
+            None => (script.as_str(), ""),
+        },
         Request::Build { file, out } => (file.as_str(), out.as_str()),
         Request::Rebuild { wad, out, .. } => (wad.as_str(), out.as_str()),
         Request::Picture {

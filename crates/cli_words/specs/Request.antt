@@ -1,5 +1,5 @@
 -- What the program's arguments ask for (docs/COMMANDS.md, "The program").
-use Rattle.std.specs.Prelude.{◌≡◌, ◌<◌, ◌≤◌, ◌⊎◌, ℕ, Bool, Some, None, List, [], codes, length, is_some, map, option_map, string_bytes, true, false, IsSomeAnd}
+use Rattle.std.specs.Prelude.{◌≡◌, ◌<◌, ◌≤◌, ◌⊎◌, ℕ, Bool, Some, None, List, [], codes, length, map, option_map, string_bytes, true, false, IsSomeAnd}
 use Rattle.std.specs.Option.{option_map_or}
 use Rattle.std.specs.Str.{bytes_eq}
 use Rattle.std.specs.Str.Parse.{IsNumeral, digits_value, without_leading_plus}
@@ -10,7 +10,7 @@ use Rattle.cli_words.specs.App.{leveled_app}
 use Rattle.cli_words.specs.RuleWords.{HasUnknownWord, all_given, unknown_given}
 use Rattle.cli_words.specs.declared.asked.Request.{Request}
 use Rattle.cli_words.specs.declared.asked.RequestError.{RequestError}
-use Rattle.cli_words.specs.declared.asked.RequestError.TheVariants.{Words, Codes, Number, Surplus, WholeAlone, NotARule, Memory}
+use Rattle.cli_words.specs.declared.asked.RequestError.TheVariants.{Words, Codes, Number, WholeAlone, NotARule, Memory}
 use Rattle.cli_words.specs.declared.asked.Request.TheVariants.{Scratch, Create, Edit, Check, Lint, Draw, TryScript, Dump, Salvage, Picture, Inspect, Levels, Build, Rebuild}
 
 -- the argument's text is this number in decimal digits, and it is within the limits
@@ -54,10 +54,10 @@ AsksFor (Draw file script verbose) asked = (asked.0 ≡ codes "draw")
     × (first_of (codes "file") asked.1 ≡ Some (string_bytes file))
     × (first_of (codes "script") asked.1 ≡ option_map string_bytes script)
     × (verbose ≡ is_given (codes "verbose") asked.1)
-AsksFor (TryScript script verbose) asked = (asked.0 ≡ codes "draw")
+AsksFor (TryScript script over verbose) asked = (asked.0 ≡ codes "draw")
     × (is_given (codes "check") asked.1 ≡ true)
     × (first_of (codes "file") asked.1 ≡ Some (string_bytes script))
-    × (first_of (codes "script") asked.1 ≡ None)
+    × (first_of (codes "script") asked.1 ≡ option_map string_bytes over)
     × (verbose ≡ is_given (codes "verbose") asked.1)
 AsksFor (Dump file names exact) asked = (asked.0 ≡ codes "dump")
     × (is_given (codes "salvage") asked.1 ≡ false)
@@ -114,7 +114,6 @@ IsIntoWad name = (name ≡ codes "build") ⊎ (name ≡ codes "rebuild")
 abbrev pub RefusesText : Text → List Row → RequestError → Type 0
 RefusesText id rows (Words error) = ⊥
 RefusesText id rows Codes = ⊥
-RefusesText id rows Surplus = ⊥
 RefusesText id rows WholeAlone = ⊥
 RefusesText id rows (NotARule word) = ⊥
 RefusesText id rows Number = first_of id rows ≡ None
@@ -130,12 +129,6 @@ LacksValue asked = (IsOverFile asked.0 × (first_of (codes "file") asked.1 ≡ N
     × (LacksNumber (codes "slot") asked.1 33 2007015
     ⊎ LacksNumber (codes "journal") asked.1 512 1048576))
 
--- `draw --check` has a second argument
-abbrev pub HasSurplus : Text × List Row → Type 0
-HasSurplus asked =
-    (asked.0 ≡ codes "draw") × (is_given (codes "check") asked.1 ≡ true)
-    × (is_some (first_of (codes "script") asked.1) ≡ true)
-
 -- `dump --salvage` has a name or `--exact`
 abbrev pub HasMoreThanFile : Text × List Row → Type 0
 HasMoreThanFile asked =
@@ -148,7 +141,6 @@ abbrev pub RefusesValues : Text × List Row → RequestError → Type 0
 RefusesValues asked (Words error) = ⊥
 RefusesValues asked Codes = ⊥
 RefusesValues asked Number = LacksValue asked
-RefusesValues asked Surplus = HasSurplus asked
 RefusesValues asked WholeAlone = HasMoreThanFile asked
 RefusesValues asked (NotARule word) = HasUnknownWord (string_bytes word) asked
 RefusesValues asked Memory = Unit {0}
@@ -162,7 +154,6 @@ RefusesRead words (Words error) =
     × (takes leveled_app words ≡ true → kind_of error ≡ OutOfMemory)
 RefusesRead words Codes = ⊥
 RefusesRead words Number = IsSomeAnd (subcommand_of leveled_app words) LacksValue
-RefusesRead words Surplus = IsSomeAnd (subcommand_of leveled_app words) HasSurplus
 RefusesRead words WholeAlone = IsSomeAnd (subcommand_of leveled_app words) HasMoreThanFile
 RefusesRead words (NotARule word) =
     IsSomeAnd (subcommand_of leveled_app words) (HasUnknownWord (string_bytes word))

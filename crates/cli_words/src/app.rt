@@ -125,7 +125,7 @@ fn lint<'a>(alloc: Global) -> Result<Command<'a>, AllocError>
 fn draw<'a>(alloc: Global) -> Result<Command<'a>, AllocError>
     ensures { IfOk result (λ c. IsCommand c draw_app) }
 {
-    let about = "Draws a script onto a project, up to the first refused line";
+    let about = "Draws a script onto a project, if no line is refused";
     over_file(alloc, "draw", about, help::DRAW)?
         .arg(last_word(alloc, "script", "SCRIPT"))?
         .arg(flag(alloc, "check"))?

@@ -39,9 +39,10 @@ pub enum Request {
         script: Option<String>,
         verbose: bool,
     },
-    /// Try the lines of a script over maps in memory.
+    /// Try the lines of a script over maps in memory: over those of the project `over`, or else over the empty project.
     TryScript {
         script: String,
+        over: Option<String>,
         verbose: bool,
     },
     /// Print the commands that draw the maps of a project, or the levels of a WAD, again: the last one with each of
@@ -101,9 +102,6 @@ pub enum RequestError {
     /// clap accepted an argument without a value within its limits.
     #[error("a number is outside its limits")]
     Number,
-    /// `draw --check` has a second argument.
-    #[error("with --check the script is the only argument")]
-    Surplus,
     /// `dump --salvage` has a name or `--exact`.
     #[error("with --salvage FILE is the only argument, and --exact can't be given")]
     WholeAlone,

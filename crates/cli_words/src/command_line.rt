@@ -182,20 +182,18 @@ fn asked_draw(alloc: Global, found: &ArgMatches<'_>) -> Result<Request, RequestE
         Err(error) => return Err(error),
     };
     let verbose = is_given(found, "verbose");
-    if !is_given(found, "check") {
-        return Ok(Request::Draw {
-            file,
-            script,
+    if is_given(found, "check") {
+        return Ok(Request::TryScript {
+            script: file,
+            over: script,
             verbose,
         });
     }
-    match script {
-        None => Ok(Request::TryScript {
-            script: file,
-            verbose,
-        }),
-        Some(_) => Err(RequestError::Surplus),
-    }
+    Ok(Request::Draw {
+        file,
+        script,
+        verbose,
+    })
 }
 
 // The request to dump what can be read of a damaged project; it takes no name and no `--exact`.
@@ -367,8 +365,8 @@ fn read_two(alloc: Global, program: &str, word: &str, name: &str) -> Result<Requ
 ///
 /// `Words` if clap refuses the arguments, or answers them itself with help or the version; clap's error has the text,
 /// its stream and the status. `Codes` for `help codes`. `Number` if clap accepted an argument without a value within
-/// its limits. `Surplus` if `draw --check` has a second argument. `WholeAlone` if `dump --salvage` has a name or
-/// `--exact`. `NotARule` if `lint` is given a word that no rule has. `Memory` if there is none.
+/// its limits. `WholeAlone` if `dump --salvage` has a name or `--exact`. `NotARule` if `lint` is given a word that no
+/// rule has. `Memory` if there is none.
 pub fn request(alloc: Global, words: &[&str]) -> Result<Request, RequestError>
     ensures asked { IfOk result (λ r. IsSomeAnd
         (subcommand_of leveled_app (without_help (map (λ w. w.now) words.now))) (AsksFor r)) }

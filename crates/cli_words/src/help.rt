@@ -85,17 +85,17 @@ about each line. FILE isn't changed.";
 
 /// `draw`.
 pub const DRAW: &str = "\
-Draws the lines of SCRIPT, or of standard input, in order, each as `edit` would: a command
-is on the disk before the next one begins. A script may have blank lines, indentation,
-several spaces between words, and comments: a word that begins with # starts one.
+Draws the lines of SCRIPT, or of standard input, in order, each as `edit` would. They are
+tried in memory first: if one is refused, nothing is drawn, and standard error says which
+one it is and what is wrong with it; the status is then 3. A script may have blank lines,
+indentation, several spaces between words, and comments: a word that begins with # starts one.
 `hall = room ..` keeps the numbers of the new items, so that `$hall.line+2` stands for the
 third wall of this room in the lines that follow, and `$line(256,128)` for the line at this
 place. Four words draw shapes by several commands: `area` a sector inside some corners,
 `pillar` walls round nothing, `door` a door in place of a sector, `change` an item with
-other values, as `change line $line(256,128) SPECIAL=11`. `draw` stops at the first refused
-line, and standard error says which one it is and what is wrong with it; the status is
-then 3, and what the lines before it drew stays. --verbose prints the answer to each
-command. `draw --check SCRIPT` tries a script on maps in memory, and opens no project file.";
+other values, as `change line $line(256,128) SPECIAL=11`. --verbose prints the answer to
+each command. `draw --check SCRIPT` tries a script on maps in memory, and `draw --check
+SCRIPT FILE` over the maps of a project, which stays as it is.";
 
 /// `dump`.
 pub const DUMP: &str = "\

@@ -147,7 +147,7 @@ fn refuse(rt: &HostRuntime, error: &RequestError) -> u8
             print_rule_words(rt);
             NO_REQUEST
         }
-        RequestError::Number | RequestError::Surplus | RequestError::WholeAlone => {
+        RequestError::Number | RequestError::WholeAlone => {
             let _ = eprintln!(rt; "leveled: {error}");
             NO_REQUEST
         }

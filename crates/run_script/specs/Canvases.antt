@@ -1,9 +1,9 @@
 -- What a script is drawn onto, a project file or maps in memory, and what each promises for a
 -- command and for a query (docs/COMMANDS.md, "Answers and queries").
-use Rattle.std.specs.Prelude.{◌≡◌, ◌⊎◌, ℕ, Bool, true, false, List, Option, Some, None, MatchOption, is_some}
+use Rattle.std.specs.Prelude.{◌≡◌, ◌⊎◌, ℕ, Bool, true, false, List, Option, Some, None, MatchOption, Result, is_some}
 use Rattle.std.specs.Io.KnownBytes.{Appends, Keeps}
 use Rattle.store_disk.specs.declared.disk.Disk.{Ghosts}
-use Rattle.map_tables.specs.Projects.{ProjectMaps, project_of}
+use Rattle.map_tables.specs.Projects.{ProjectMaps, empty_project, project_of}
 use Rattle.store_project.specs.States.{State}
 use Rattle.run_edit.specs.Answers.{ChangesBy}
 use Rattle.run_edit.specs.Queries.{IsAnswer, TakesMemory, query_of}
@@ -50,11 +50,31 @@ TellsBehind facts old line refusal new writer-old writer-new =
     × TellsOfProject new.project line refusal writer-old writer-new)
     ⊎ ((refusal ≡ Some 30) × Loses facts old new × Keeps writer-old writer-new)
 
+-- ---- Maps in memory
+
+-- what a contract sees of them: the maps, and how long their body may be
+pub record Drafted : Type 0 where
+  pub maps : ProjectMaps
+  pub cap : ℕ
+
+-- the empty project, which may grow as long as that of any project file
+abbrev pub first_draft : Drafted
+first_draft = record { maps = empty_project; cap = LONGEST_BODY }
+
+-- the maps of a project, which may grow as long as they may there
+abbrev pub draft_of : {D : Type 0} → State D → Drafted
+draft_of project = record { maps = project_of project.maps; cap = project.cap }
+
+-- a line that is no query changed the maps alone
+abbrev pub ChangesDraft : Drafted → List ℕ → Result ℕ ℕ → Drafted → Type 0
+ChangesDraft old line outcome new =
+    ChangesBy old.cap old.maps line outcome new.maps × (new.cap ≡ old.cap)
+
 -- the maps stay, and the answer to a query about them was written
-abbrev pub TellsOfDraft : ProjectMaps → List ℕ → Option ℕ → ProjectMaps → Option (List ℕ)
+abbrev pub TellsOfDraft : Drafted → List ℕ → Option ℕ → Drafted → Option (List ℕ)
     → Option (List ℕ) → Type 0
 TellsOfDraft old line refusal new writer-old writer-new =
-    (new ≡ old) × TellsOfMaps old line refusal writer-old writer-new
+    (new ≡ old) × TellsOfMaps old.maps line refusal writer-old writer-new
 
 -- ---- Canvases
 
@@ -74,12 +94,12 @@ project_canvas facts = record {
   has_lost = λ d. d.has_lost;
 }
 
--- maps in memory, which may be as long as those of any project file; no command waits
-abbrev pub draft_canvas : canvas.Ghosts ProjectMaps
+-- maps in memory; no command waits
+abbrev pub draft_canvas : canvas.Ghosts Drafted
 draft_canvas = record {
-  changes = ChangesBy LONGEST_BODY;
-  maps_in = λ p. p;
-  cap_in = λ _. LONGEST_BODY;
+  changes = ChangesDraft;
+  maps_in = λ d. d.maps;
+  cap_in = λ d. d.cap;
   is_query = is_query_line;
   tells = TellsOfDraft;
   begins = λ old alone new. new ≡ old;

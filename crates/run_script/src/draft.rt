@@ -1,9 +1,8 @@
 //! Maps in memory, on which a script is tried.
-ghost use Rattle.std.specs.Prelude.{◌≡◌, ◌≤◌, true, false};
-ghost use Rattle.run_edit.specs.declared.limits.TheConstants.{LONGEST_BODY};
-ghost use Rattle.run_edit.specs.Answers.{ChangesBy, outcome_of};
-ghost use Rattle.map_tables.specs.Projects.{ProjectMaps, body_len, empty_project, project_of};
-ghost use Rattle.run_script.specs.Canvases.{TellsOfDraft, is_query_line};
+ghost use Rattle.std.specs.Prelude.{◌≡◌, ◌≤◌, IfOk, true, false};
+ghost use Rattle.run_edit.specs.Answers.{outcome_of};
+ghost use Rattle.map_tables.specs.Projects.{body_len, project_of};
+ghost use Rattle.run_script.specs.Canvases.{ChangesDraft, Drafted, TellsOfDraft, first_draft, is_query_line};
 
 use crate::asking::{is_query_line, tell_of};
 use crate::canvas::Canvas;
@@ -11,32 +10,45 @@ use crate::error::ScriptError;
 use map_commands::{CommandError, apply, parse};
 use map_tables::Maps;
 use run_edit::LONGEST_BODY;
-use std::alloc::Global;
+use std::alloc::{AllocError, Global};
 use std::io::Write;
 use std::marker::Model;
+use store_project::copy_of;
 
-/// The maps of a project in memory, at first the empty map MAP01 alone. They may be as long as those of any project
-/// file.
+/// The maps of a project in memory, and how long their body may be, in bytes.
 #[derive(Drop)]
 pub struct Draft {
     maps: Maps,
+    cap: u32,
 }
 
 impl Model for Draft {
-    ghost Value = { ProjectMaps };
+    ghost Value = { Drafted };
 
-    ghost view = { λ d. project_of d.maps };
+    ghost view = { λ d. record { maps = project_of d.maps; cap = d.cap } };
 
-    ghost invariant = { λ d. body_len (project_of d.maps) ≤ 2007002 };
+    ghost invariant = { λ d. body_len (project_of d.maps) ≤ d.cap };
 }
 
 impl Draft {
-    /// The empty map MAP01 alone. Allocates nothing.
+    /// The empty map MAP01 alone, which may grow as long as those of any project file. Allocates nothing.
     pub fn new(alloc: Global) -> Self
-        ensures { result ≡ empty_project }
+        ensures { result ≡ first_draft }
     {
         Draft {
             maps: Maps::new(alloc),
+            cap: LONGEST_BODY,
+        }
+    }
+
+    /// A copy of these maps, whose body may be as long as `cap` says. Only lack of memory refuses it.
+    pub fn over(alloc: Global, maps: &Maps, cap: u32) -> Result<Self, AllocError>
+        requires { body_len (project_of maps.now) ≤ cap }
+        ensures { IfOk result (λ d. d ≡ record { maps = project_of maps.now; cap = cap }) }
+    {
+        match copy_of(alloc, maps) {
+            Ok(maps) => Ok(Draft { maps, cap }),
+            Err(error) => Err(error),
         }
     }
 }
@@ -55,11 +67,11 @@ impl Canvas for Draft {
     ghost use Rattle.std.proofs.Common.{◌∙◌, refl, sym};
     ghost use Rattle.std.proofs.lemmas.Bool.{true≢false};
 
-    ghost changes = { ChangesBy LONGEST_BODY };
+    ghost changes = { ChangesDraft };
 
-    ghost maps_in = { λ p. p };
+    ghost maps_in = { λ d. d.maps };
 
-    ghost cap_in = { λ _. LONGEST_BODY };
+    ghost cap_in = { λ d. d.cap };
 
     ghost is_query = { is_query_line };
 
@@ -82,7 +94,7 @@ impl Canvas for Draft {
             Ok(command) => command,
             Err(error) => return Err(error.code()),
         };
-        outcome_of(apply(&mut self.maps, &command, LONGEST_BODY))
+        outcome_of(apply(&mut self.maps, &command, self.cap))
     }
 
     fn maps(&self) -> &Maps {
@@ -90,7 +102,7 @@ impl Canvas for Draft {
     }
 
     fn cap(&self) -> u32 {
-        LONGEST_BODY
+        self.cap
     }
 
     fn is_query(line: &[u8]) -> bool {

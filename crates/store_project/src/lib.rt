@@ -16,6 +16,6 @@ pub use error::ProjectError;
 pub use geometry::Geometry;
 pub use header::lengths_in;
 pub use law::{exclude_one_another, stand_for_one_map};
-pub use project::{Project, ProjectGroup};
+pub use project::{Project, ProjectGroup, copy_of};
 pub use reading::{Refused, read_maps};
 pub use sessions::{applies, checkpoints, creates, hold_each_acknowledged, opens, puts};

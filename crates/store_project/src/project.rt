@@ -17,7 +17,7 @@ use crate::geometry::Geometry;
 use crate::opening::write_new;
 use crate::places::Places;
 use crate::reading::{Refused, read_through};
-pub use group::ProjectGroup;
+pub use group::{ProjectGroup, copy_of};
 use map_commands::{Ready, commit, parse, ready};
 use map_tables::{Map, Maps};
 use std::alloc::Global;
@@ -102,7 +102,8 @@ impl<D: Disk> Project<D> {
 
     /// How long the body of all maps may be, in bytes.
     pub fn cap(&self) -> u32
-        ensures { result ≡ self.now.cap }
+        ensures cap { result ≡ self.now.cap }
+        ensures fits { body_len (project_of self.now.maps) ≤ self.now.cap }
     {
         self.geometry.cap()
     }

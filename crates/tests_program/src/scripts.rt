@@ -19,13 +19,14 @@ const LEVEL: &str = "leveled_scripts_level";
 
 const LEVEL_TEXT: &[u8] = b"count\nvertex 1 1";
 
-// Arguments after `leveled`, the input, the status, the output, and standard error. What was drawn stays: the second
-// row finds the vertex of the first. No row makes the file without a script.
+// Arguments after `leveled`, the input, the status, the output, and standard error. A script of which a line is refused
+// draws nothing: the vertex of the second row is the first. No row makes the file without a script.
 #[rattlefmt::skip]
 const RUNS: &[(&[&str], &[u8], u8, &[u8], &[u8])] = &[
-    (&["draw", FILE, SCRIPT, "--verbose"], b"count\n", 3, b"2: ok 0\n",
+    (&["draw", FILE, SCRIPT, "--verbose"], b"count\n", 3, b"",
         b"leveled_scripts_script:3: vertx $here 9: 1 NotACommand\n  perhaps this is meant: vertex X Y\n"),
-    (&["draw", FILE], b"\tcount\r\nvertex 0 0 # again\ncount\n", 3, b"vertices 1 sectors 0 sides 0 lines 0 things 0\n",
+    (&["draw", FILE, "--verbose"], b"vertex 0 0", 0, b"1: ok 0\n", b""),
+    (&["draw", FILE], b"\tcount\r\nvertex 0 0 # again\ncount\n", 3, b"",
         b"-:2: vertex 0 0: 10 PlaceTaken\n  vertex 0 stands at 0 0\n"),
     (&["draw", FILE], b"vertex 1 1\ncount", 0, b"vertices 2 sectors 0 sides 0 lines 0 things 0\n", b""),
     (&["draw", FILE, NO_SCRIPT], b"vertex 2 2\n", 1, b"",

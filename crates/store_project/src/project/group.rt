@@ -118,8 +118,8 @@ fn replay(maps: &mut Maps, commands: &[ProjectCommand], cap: u32) -> bool
     true
 }
 
-// The same maps once more, by way of their body.
-fn copy_of(alloc: Global, maps: &Maps) -> Result<Maps, AllocError>
+/// The same maps once more, by way of their body. Only lack of memory refuses it.
+pub fn copy_of(alloc: Global, maps: &Maps) -> Result<Maps, AllocError>
     ensures { IfOk result (λ copy. project_of copy ≡ project_of maps.now) }
 {
     let Ok(body) = maps.encode_body(alloc) else {

@@ -1,5 +1,5 @@
 use Rattle.std.proofs.Common.{◌∙◌, ap, inl, inr, subst}
-use Rattle.std.proofs.KnownBytes.{Keeps-refl}
+use Rattle.std.proofs.KnownBytes.{Keeps-refl, Keeps-trans}
 use Rattle.store_project.specs.States.{State}
 use Rattle.run_script.specs.Canvases.{project_canvas}
 use Rattle.run_script.specs.Waiting.{Drawing}
@@ -14,13 +14,25 @@ returns-in-Err-clause-small g c = no_status g.D.Disk c.args.disk c.in-Err.refuse
 pub returns-in-Err-clause-drawn : goal.returns-in-Err-clause-drawn
 returns-in-Err-clause-drawn g c = rw c.not_opened.ensures.disk (inl ((c.in-Err.refused.error, c.not_opened.ensures.how, c.in-Err.ensures.refused.0, c.in-Err.ensures.refused.2), c.in-Err.ensures.refused.1, Keeps-refl (g.W.Write.contents c.args.writer.now)))
 
+pub returns-in-Some-clause-drawn : goal.returns-in-Some-clause-drawn
+returns-in-Some-clause-drawn g c =
+    inr (c.in-Ok.project, c.in-Ok.ensures.opened, inl (c.in-Some.ensures.tried, c.into_disk.ensures.disk, Keeps-refl (g.W.Write.contents c.args.writer.now)))
+
 pub returns-clause-drawn : goal.returns-clause-drawn
 returns-clause-drawn g c =
+    let ((tried, whole), kept) = c.in-None.ensures.tried in
     inr (
       c.in-Ok.project,
-      c.draw_onto-how.new.canvas,
       c.in-Ok.ensures.opened,
-      c.into_disk.ensures.disk ∙ ap (λ (s : State _). s.disk) c.into_project-project.ensures,
-      subst (λ (d : Drawing _). IsDrawnOnto (project_canvas g.D.Disk) c.args.script.is_verbose c.args.script.text.now c.draw_onto-how.result d c.draw_onto-how.new.canvas
-          (g.W.Write.contents c.args.writer.now) (g.W.Write.contents c.draw_onto-how.new.writer)) c.new-canvas.ensures.first c.draw_onto-how.ensures.drawn,
+      inr (
+        tried,
+        whole,
+        c.draw_onto-how.new.canvas,
+        c.into_disk.ensures.disk ∙ ap (λ (s : State _). s.disk) c.into_project-project.ensures,
+        subst (λ (d : Drawing _). IsDrawnOnto (project_canvas g.D.Disk) c.args.script.is_verbose c.args.script.text.now c.draw_onto-how.result d c.draw_onto-how.new.canvas
+            (g.W.Write.contents c.args.writer.now) (g.W.Write.contents c.draw_onto-how.new.writer)) c.new-canvas.ensures.first c.draw_onto-how.ensures.drawn,
+      ),
     )
+
+pub returns-clause-quiet : goal.returns-clause-quiet
+returns-clause-quiet g c = λ is. Keeps-trans _ _ _ c.in-None.ensures.tried.1 (c.draw_onto-how.ensures.quiet is)

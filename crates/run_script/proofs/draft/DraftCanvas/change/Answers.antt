@@ -1,10 +1,10 @@
-use Rattle.std.proofs.Common.{ℕ, Result, subst, sym}
-use Rattle.run_edit.specs.declared.limits.TheConstants.{LONGEST_BODY}
-use Rattle.run_edit.specs.Answers.{ChangesBy}
+use Rattle.std.proofs.Common.{ℕ, Result, ap, subst, sym}
+use Rattle.run_edit.specs.Answers.{ChangesBy, outcome_of}
 use Rattle.map_tables.specs.Projects.{ProjectMaps, project_of}
 use Rattle.map_commands.specs.ProjectReadiness.{EndsStep}
 use Rattle.map_commands.specs.ProjectStep.{step}
 use Rattle.run_edit.proofs.Answering.{tried}
+use Rattle.run_script.specs.Canvases.{Drafted}
 use Rattle.run_script.proofs.draft.DraftCanvas.change.Goals as goal
 
 pub returns : goal.returns
@@ -12,7 +12,12 @@ returns c =
     let old = c.args.self.now in
     let new = project_of c.apply.new.maps in
     let line = c.args.line.now in
-    let ends = subst (λ (p : ProjectMaps). EndsStep c.apply.result (step p c.in-Ok.command LONGEST_BODY) p new) c.self.view_is c.apply.ensures.ends in
-    subst (λ (outcome : Result ℕ ℕ). ChangesBy LONGEST_BODY old line outcome new) (sym c.outcome_of.ensures)
-    (tried LONGEST_BODY old new line c.in-Ok.command c.self.inside.maps.spare c.apply.result c.in-Ok.ensures.ok.1 c.in-Ok.ensures.ok.0 c.in-Ok.ensures.fault ends
-    c.apply.ensures.promised)
+    let cap = ap (λ (d : Drafted). d.cap) c.self.view_is in
+    let ends = subst (λ (p : ProjectMaps). EndsStep c.apply.result (step p c.in-Ok.command c.self.inside.cap) p new) (ap (λ (d : Drafted). d.maps) c.self.view_is)
+    c.apply.ensures.ends in
+    let changes = tried c.self.inside.cap old.maps new line c.in-Ok.command c.self.inside.maps.spare c.apply.result c.in-Ok.ensures.ok.1 c.in-Ok.ensures.ok.0
+    c.in-Ok.ensures.fault ends c.apply.ensures.promised in (
+      subst (λ (outcome : Result ℕ ℕ). ChangesBy old.cap old.maps line outcome new) (sym c.outcome_of.ensures)
+          (subst (λ (n : ℕ). ChangesBy n old.maps line (outcome_of c.apply.result) new) cap changes),
+      cap,
+    )
