@@ -8,11 +8,12 @@ use Rattle.cli_print.specs.Reading.{ReadsAll}
 use Rattle.std.proofs.KnownBytes.{Keeps-refl}
 use Rattle.map_tables.specs.Projects.{MapsView, ProjectMaps, project_of}
 use Rattle.map_script.specs.Scripts.{script_lines}
-use Rattle.run_script.specs.Canvases.{Drafted, draft_canvas, draft_of, first_draft}
+use Rattle.run_script.specs.Canvases.{Drafted, draft_canvas, draft_over, first_draft}
 use Rattle.run_script.specs.Drawn.{IsScriptDrawn}
 use Rattle.run_script.specs.declared.drawing.Stop.{Stop}
 use Rattle.run_script.specs.declared.error.ScriptError.{ScriptError}
-use Rattle.cli_program.specs.Drawing.{DrawsWhole, IsDrawnOnto, IsHeldBack, IsTriedOntoSome, IsTriedOver, TellsStopFrom}
+use Rattle.cli_program.specs.Drawing.{DrawsWhole, IsDrawnOnto, IsHeldBack, IsTriedOver, TellsStopFrom}
+use Rattle.cli_program.specs.DrawnInto.{IsTriedOntoSome}
 use Rattle.cli_program.specs.DrawnOver.{IsTriedOverDisk}
 use Rattle.cli_program.specs.ScriptMaps.{IsReadDrawn, IsStoppedFrom, IsWithoutUntouched, NotReadDrawn, OverScript}
 use Rattle.cli_program.specs.SomeSource.{OverSome, OverSomeMaps}
@@ -38,7 +39,7 @@ stopped_whole name text status old d x (inr told) other = told
 
 -- maps in memory that are a copy of a project's
 pub draft_same : {D : Type 0} (project : State D) (m : MapsView) (n : ℕ) (d : Drafted) → d ≡ record { maps = project_of m; cap = n } → m ≡ project.maps → n ≡ project.cap
-    → d ≡ draft_of project
+    → d ≡ draft_over project
 draft_same project m n d is same cap =
     subst (λ (v : MapsView). d ≡ record { maps = project_of v; cap = project.cap }) same
     (subst (λ (k : ℕ). d ≡ record { maps = project_of m; cap = k }) cap is)
@@ -57,14 +58,14 @@ rehearsed name text old first new d x (Some how) same stopped = subst (λ (q : D
 
 -- a script that was tried over a copy of a project's maps
 pub tried_same : {D : Type 0} (project : State D) (m : MapsView) (n : ℕ) (verbose : Bool) (text : List ℕ) (how : Result ℕ Refusal) (u w : Option (List ℕ)) → m ≡ project.maps
-    → n ≡ project.cap → IsTriedOver (record { maps = project_of m; cap = n }) verbose text how u w → IsTriedOver (draft_of project) verbose text how u w
+    → n ≡ project.cap → IsTriedOver (record { maps = project_of m; cap = n }) verbose text how u w → IsTriedOver (draft_over project) verbose text how u w
 tried_same project m n verbose text how u w same cap tried =
     subst (λ (d : Drafted). IsTriedOver d verbose text how u w) (draft_same project m n (record { maps = project_of m; cap = n }) refl same cap) tried
 
 pub tried_onto_some : {D : Type 0} (facts : Ghosts D) (before after : D) (verbose : Bool) (text : List ℕ) (how : Result ℕ Refusal) (u w : Option (List ℕ))
     → IsTriedOverDisk facts before after verbose text how u w → IsTriedOntoSome verbose how u w
 tried_onto_some facts before after verbose text how u w (only, inl ((e, is, refused, counted), kept)) = inr (inl (e, is, of_opening (facts.reads before) e refused, kept))
-tried_onto_some facts before after verbose text how u w (only, inr (project, opened, tried)) = inr (inr (text, draft_of project, tried))
+tried_onto_some facts before after verbose text how u w (only, inr (project, opened, tried)) = inr (inr (text, draft_over project, tried))
 
 -- ---- A script
 

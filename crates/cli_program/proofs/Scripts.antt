@@ -15,7 +15,8 @@ use Rattle.std.proofs.KnownBytes.{Keeps-refl}
 use Rattle.std.specs.Prelude.{IfOk, slice_get}
 use Rattle.map_script.specs.Scripts.{script_lines}
 use Rattle.store_disk.specs.declared.disk.Disk.{Ghosts}
-use Rattle.cli_program.specs.Drawing.{IsDrawnInto, IsHandedOn, IsReadTried, IsScriptTried, ShowsStop, TellsRefused, TellsStopFrom}
+use Rattle.cli_program.specs.Drawing.{IsHandedOn, ShowsStop, TellsRefused, TellsStopFrom}
+use Rattle.cli_program.specs.DrawnInto.{IsDrawnInto, IsReadTried, IsScriptTried}
 
 apart : (n : ℕ) → n ≡ 3 → n ≡ 0 → ⊥
 apart n three none = omega arith

@@ -16,7 +16,7 @@ use Rattle.store_project.specs.declared.error.ProjectError.TheVariants.{Refused 
 use Rattle.store_project.specs.declared.geometry.Geometry.{Geometry}
 use Rattle.run_edit.specs.Recovery.{IsOnlyRead}
 use Rattle.cli_program.specs.Deeds.{IsCreated, IsEdited, IsExamined}
-use Rattle.cli_program.specs.Drawing.{EndsUnopened, EndsUnread, IsDrawnOntoSome, IsRefusedFor, IsUnreadOf}
+use Rattle.cli_program.specs.DrawnInto.{EndsUnopened, EndsUnread, IsDrawnOntoSome, IsRefusedFor, IsUnreadOf}
 use Rattle.cli_program.specs.DrawnOver.{IsDrawnOver}
 use Rattle.cli_program.specs.SomeSource.{OverSomeMaps}
 use Rattle.cli_refusals.specs.Refusals.{IsOfOpening}

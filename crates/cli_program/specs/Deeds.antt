@@ -8,7 +8,7 @@ use Rattle.store_project.specs.Places.{IsAllowed}
 use Rattle.store_project.specs.States.{State}
 use Rattle.store_project.specs.declared.error.ProjectError.{ProjectError}
 use Rattle.run_edit.specs.Answers.{RepliesInMemory}
-use Rattle.cli_program.specs.Drawing.{IsDrawnInto, IsScriptTried, IsTriedOntoSome}
+use Rattle.cli_program.specs.DrawnInto.{IsDrawnInto, IsScriptTried, IsTriedOntoSome}
 use Rattle.run_edit.specs.Editing.{told_of}
 use Rattle.run_edit.specs.Inspections.{IsInspected}
 use Rattle.cli_program.specs.LevelNames.{IsListed}

@@ -3,9 +3,10 @@ use Rattle.std.specs.Prelude.{◌≡◌, ◌⊎◌, ℕ, Bool, List, Option, Res
 use Rattle.std.specs.Io.KnownBytes.{Keeps}
 use Rattle.store_disk.specs.declared.disk.Disk.{Ghosts}
 use Rattle.store_project.specs.States.{State}
-use Rattle.run_script.specs.Canvases.{draft_of}
+use Rattle.run_script.specs.Canvases.{draft_over}
 use Rattle.run_edit.specs.Recovery.{IsOnlyRead}
-use Rattle.cli_program.specs.Drawing.{IsDrawnOrLeft, IsTriedOver}
+use Rattle.cli_program.specs.Drawing.{IsTriedOver}
+use Rattle.cli_program.specs.DrawnInto.{IsDrawnOrLeft}
 use Rattle.cli_program.specs.Sources.{IsOpenedFrom, NotOpened}
 use Rattle.cli_refusals.specs.declared.refusal.Refusal.{Refusal}
 
@@ -26,4 +27,4 @@ IsTriedOverDisk {D = D} facts before after verbose script how writer-old writer-
     IsOnlyRead facts before after
     × ((NotOpened facts before after how × Keeps writer-old writer-new)
     ⊎ ((project : State D) × IsOpenedFrom facts before project
-    × IsTriedOver (draft_of project) verbose script how writer-old writer-new))
+    × IsTriedOver (draft_over project) verbose script how writer-old writer-new))

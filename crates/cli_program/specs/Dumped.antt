@@ -1,7 +1,7 @@
 -- What the request `dump` writes and tells of a WAD (docs/COMMANDS.md, "Levels as command lines").
 use Rattle.std.specs.Prelude.{◌⊎◌, ℕ, Option, Result, List}
 use Rattle.std.specs.Io.KnownBytes.{Keeps}
-use Rattle.cli_program.specs.Drawing.{IsRefusedFor, IsUnreadOf}
+use Rattle.cli_program.specs.DrawnInto.{IsRefusedFor, IsUnreadOf}
 use Rattle.cli_refusals.specs.declared.refusal.Refusal.{Refusal}
 use Rattle.cli_print.specs.Reading.{ReadsAll}
 

@@ -1,5 +1,6 @@
 pub mod Deeds
 pub mod Drawing
+pub mod DrawnInto
 pub mod Dumped
 pub mod DrawnOver
 pub mod Kinds

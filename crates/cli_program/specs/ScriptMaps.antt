@@ -10,7 +10,8 @@ use Rattle.run_script.specs.Canvases.{ChangesDraft, Drafted, draft_canvas, first
 use Rattle.run_script.specs.Lines.{OneOf}
 use Rattle.cli_print.specs.Picturing.{is_called}
 use Rattle.cli_print.specs.Reading.{ReadsAll}
-use Rattle.cli_program.specs.Drawing.{DrawsWhole, IsUnreadOf, TellsStopFrom}
+use Rattle.cli_program.specs.Drawing.{DrawsWhole, TellsStopFrom}
+use Rattle.cli_program.specs.DrawnInto.{IsUnreadOf}
 use Rattle.cli_refusals.specs.declared.refusal.Refusal.{Refusal}
 use Rattle.cli_refusals.specs.declared.refusal.Refusal.TheVariants as of
 

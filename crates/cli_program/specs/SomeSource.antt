@@ -4,7 +4,7 @@ use Rattle.std.specs.Prelude.{◌⊎◌, ℕ, Option, Result, List}
 use Rattle.std.specs.Io.KnownBytes.{Keeps}
 use Rattle.map_tables.specs.Projects.{MapsView}
 use Rattle.cli_refusals.specs.declared.refusal.Refusal.{Refusal}
-use Rattle.cli_program.specs.Drawing.{EndsUnopened, EndsUnread}
+use Rattle.cli_program.specs.DrawnInto.{EndsUnopened, EndsUnread}
 use Rattle.cli_program.specs.ScriptMaps.{OverSomeScript}
 
 -- no project was opened and nothing written, or this was done with the maps of some project

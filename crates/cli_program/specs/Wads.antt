@@ -1,6 +1,6 @@
 -- What was told and shown of a WAD that stands in place of a project (docs/COMMANDS.md, "The program").
 use Rattle.std.specs.Prelude.{◌⊎◌, ℕ, List, Option, Result}
-use Rattle.cli_program.specs.Drawing.{IsRefusedFor, IsUnreadOf}
+use Rattle.cli_program.specs.DrawnInto.{IsRefusedFor, IsUnreadOf}
 use Rattle.cli_refusals.specs.declared.refusal.Refusal.{Refusal}
 use Rattle.cli_print.specs.Reading.{ReadsAll}
 

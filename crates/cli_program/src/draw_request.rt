@@ -4,7 +4,7 @@ ghost use Rattle.std.specs.Io.KnownBytes.{Keeps};
 ghost use Rattle.cli_program.specs.Drawing.{DrawsWhole, IsDrawnOnto, IsHandedOn, IsHeldBack, IsStopTold, IsTriedOn, IsTriedOver, ShowsStop, TellsRefused, TellsStopFrom, stop_status};
 ghost use Rattle.map_script.specs.Views.{seen};
 ghost use Rattle.map_tables.specs.Projects.{body_len, project_of};
-ghost use Rattle.run_script.specs.Canvases.{Drafted, NothingWaits, draft_of};
+ghost use Rattle.run_script.specs.Canvases.{Drafted, NothingWaits, draft_over};
 ghost use Rattle.run_script.specs.declared.error.ScriptError.TheVariants.{OutOfMemory};
 ghost use Rattle.cli_program.specs.DrawnOver.{IsDrawnOver, IsTriedOverDisk};
 ghost use Rattle.cli_program.specs.ScriptMaps.{IsStoppedFrom};
@@ -178,9 +178,9 @@ fn rehearse<D: Disk, F: Write>(
     faults: &mut F,
 ) -> Option<Result<u8, Refusal>>
     ensures tried { MatchOption result
-        (((tried : Drafted) × DrawsWhole script.entry.text.now (draft_of project.now) tried)
+        (((tried : Drafted) × DrawsWhole script.entry.text.now (draft_over project.now) tried)
         × Keeps (F.contents faults.old) (F.contents faults.new))
-        (λ how. IsHeldBack (draft_of project.now) script.entry.text.now how) }
+        (λ how. IsHeldBack (draft_over project.now) script.entry.text.now how) }
     ensures small { IfSome result (λ how. IfOk how (λ s. s ≤ 3)) }
 {
     let Ok(mut draft) = Draft::over(alloc, project.maps(), project.cap()) else {

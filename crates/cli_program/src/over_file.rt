@@ -1,7 +1,7 @@
 //! The requests that make a project or change one, and `dump --salvage`, over the file at a path.
 ghost use Rattle.std.specs.Prelude.{◌≡◌, ◌≤◌, false, Ok, IfErr, IfOk, is_some};
 ghost use Rattle.std.specs.Io.KnownBytes.{Keeps};
-ghost use Rattle.cli_program.specs.Drawing.{IsDrawnInto, IsTriedOntoSome};
+ghost use Rattle.cli_program.specs.DrawnInto.{IsDrawnInto, IsTriedOntoSome};
 ghost use Rattle.cli_program.specs.Salvaging.{IsSalvagedInto};
 ghost use Rattle.cli_program.specs.Deeds.{IsCreated, IsEdited};
 ghost use Rattle.cli_refusals.specs.declared.refusal.Refusal.{Refusal};

@@ -2,7 +2,7 @@
 ghost use Rattle.std.specs.Prelude.{◌≡◌, ◌≤◌, false, None, Ok, IfErr, IfOk};
 ghost use Rattle.std.specs.Io.KnownBytes.{Keeps};
 ghost use Rattle.cli_print.specs.Reading.{no_script};
-ghost use Rattle.cli_program.specs.Drawing.{IsInput, IsReadTried, IsScriptTried, IsUnreadOf};
+ghost use Rattle.cli_program.specs.DrawnInto.{IsInput, IsReadTried, IsScriptTried, IsUnreadOf};
 
 use crate::draw_request::{Script, try_script};
 use cli_files::Cause;

@@ -22,18 +22,54 @@ bodies =
     ∷ (record { first = pos 69; last = pos 69; radius = 24; height = 64; moves = true; step = 8 })
     ∷ (record { first = pos 71; last = pos 71; radius = 31; height = 56; moves = true; step = 8 })
     ∷ (record { first = pos 84; last = pos 84; radius = 20; height = 56; moves = true; step = 8 })
-    ∷ (record { first = pos 3001; last = pos 3001; radius = 20; height = 56;
-        moves = true; step = 8 })
-    ∷ (record { first = pos 3002; last = pos 3002; radius = 30; height = 56;
-        moves = true; step = 10 })
-    ∷ (record { first = pos 3003; last = pos 3003; radius = 24; height = 64;
-        moves = true; step = 8 })
-    ∷ (record { first = pos 3004; last = pos 3004; radius = 20; height = 56;
-        moves = true; step = 8 })
-    ∷ (record { first = pos 3005; last = pos 3005; radius = 31; height = 56;
-        moves = true; step = 8 })
-    ∷ (record { first = pos 3006; last = pos 3006; radius = 16; height = 56;
-        moves = true; step = 8 })
+    ∷ (record {
+      first = pos 3001;
+      last = pos 3001;
+      radius = 20;
+      height = 56;
+      moves = true;
+      step = 8;
+    })
+    ∷ (record {
+      first = pos 3002;
+      last = pos 3002;
+      radius = 30;
+      height = 56;
+      moves = true;
+      step = 10;
+    })
+    ∷ (record {
+      first = pos 3003;
+      last = pos 3003;
+      radius = 24;
+      height = 64;
+      moves = true;
+      step = 8;
+    })
+    ∷ (record {
+      first = pos 3004;
+      last = pos 3004;
+      radius = 20;
+      height = 56;
+      moves = true;
+      step = 8;
+    })
+    ∷ (record {
+      first = pos 3005;
+      last = pos 3005;
+      radius = 31;
+      height = 56;
+      moves = true;
+      step = 8;
+    })
+    ∷ (record {
+      first = pos 3006;
+      last = pos 3006;
+      radius = 16;
+      height = 56;
+      moves = true;
+      step = 8;
+    })
     ∷ (record { first = pos 25; last = pos 33; radius = 16; height = 16; moves = false; step = 0 })
     ∷ (record { first = pos 35; last = pos 37; radius = 16; height = 16; moves = false; step = 0 })
     ∷ (record { first = pos 41; last = pos 48; radius = 16; height = 16; moves = false; step = 0 })
@@ -49,10 +85,22 @@ bodies =
     ∷ (record { first = pos 75; last = pos 78; radius = 16; height = 64; moves = false; step = 0 })
     ∷ (record { first = pos 85; last = pos 86; radius = 16; height = 16; moves = false; step = 0 })
     ∷ (record { first = pos 88; last = pos 88; radius = 16; height = 16; moves = false; step = 0 })
-    ∷ (record { first = pos 2028; last = pos 2028; radius = 16; height = 16;
-        moves = false; step = 0 })
-    ∷ (record { first = pos 2035; last = pos 2035; radius = 10; height = 42;
-        moves = false; step = 0 })
+    ∷ (record {
+      first = pos 2028;
+      last = pos 2028;
+      radius = 16;
+      height = 16;
+      moves = false;
+      step = 0;
+    })
+    ∷ (record {
+      first = pos 2035;
+      last = pos 2035;
+      radius = 10;
+      height = 42;
+      moves = false;
+      step = 0;
+    })
     ∷ []
 
 -- the thing's type is one of these

@@ -62,8 +62,8 @@ abbrev pub first_draft : Drafted
 first_draft = record { maps = empty_project; cap = LONGEST_BODY }
 
 -- the maps of a project, which may grow as long as they may there
-abbrev pub draft_of : {D : Type 0} → State D → Drafted
-draft_of project = record { maps = project_of project.maps; cap = project.cap }
+abbrev pub draft_over : {D : Type 0} → State D → Drafted
+draft_over project = record { maps = project_of project.maps; cap = project.cap }
 
 -- a line that is no query changed the maps alone
 abbrev pub ChangesDraft : Drafted → List ℕ → Result ℕ ℕ → Drafted → Type 0

@@ -1,7 +1,7 @@
 use Rattle.std.proofs.Common.{◌∙◌, List, ℕ, ap, inl, inr, refl, subst, sym}
 use Rattle.std.specs.Prelude.{Err, false}
 use Rattle.std.proofs.KnownBytes.{Keeps-refl}
-use Rattle.cli_program.specs.Drawing.{IsInput}
+use Rattle.cli_program.specs.DrawnInto.{IsInput}
 use Rattle.cli_program.proofs.Sources.{drawn_onto_some}
 use Rattle.cli_program.proofs.over_file.draw_read.Goals as goal
 

@@ -1,7 +1,7 @@
 use Rattle.std.proofs.Common.{List, ℕ, inl, inr, refl, subst, sym}
 use Rattle.std.specs.Prelude.{false}
 use Rattle.std.proofs.KnownBytes.{Keeps-refl}
-use Rattle.cli_program.specs.Drawing.{IsInput}
+use Rattle.cli_program.specs.DrawnInto.{IsInput}
 use Rattle.cli_program.proofs.script_file.try_read.Goals as goal
 
 pub returns-in-Err-clause-tried : goal.returns-in-Err-clause-tried

@@ -1,7 +1,7 @@
 use Rattle.std.proofs.Common.{List, ℕ, inl, refl, subst, sym}
 use Rattle.std.specs.Prelude.{false}
 use Rattle.std.proofs.KnownBytes.{Keeps-refl}
-use Rattle.cli_program.specs.Drawing.{IsInput}
+use Rattle.cli_program.specs.DrawnInto.{IsInput}
 use Rattle.cli_program.proofs.Scripted.{drawn_read, stopped_read}
 use Rattle.cli_program.proofs.script_maps.draw_maps.Goals as goal
 
