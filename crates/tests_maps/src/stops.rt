@@ -331,9 +331,9 @@ const AT_OPENINGS: &[(&[u8], &[u8], &[u8], &str)] = &[
     (b"set-sector 0 40 128 FLOOR4_8 CEIL3_5 160 0 0", b"set-sector 1 0 95 FLOOR4_8 CEIL3_5 160 0 0",
         b"thing 120 64 90 2 7", "thing-stuck 1 at (120,64)\n"),
     (b"set-sector 0 0 128 FLOOR4_8 CEIL3_5 160 0 0", b"set-sector 1 0 110 FLOOR4_8 CEIL3_5 160 0 0",
-        b"thing 100 64 90 16 7", ""),
+        b"thing 105 64 90 16 7", ""),
     (b"set-sector 0 0 128 FLOOR4_8 CEIL3_5 160 0 0", b"set-sector 1 0 109 FLOOR4_8 CEIL3_5 160 0 0",
-        b"thing 100 64 90 16 7", "thing-stuck 1 at (100,64)\n"),
+        b"thing 105 64 90 16 7", "thing-stuck 1 at (105,64)\n"),
 ];
 
 #[test]
