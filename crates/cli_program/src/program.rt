@@ -170,10 +170,13 @@ where
             numbers,
             nodes,
             lint,
+            heights,
+            grid,
+            crop,
         } => {
             let wanted = Wanted {
                 map: map.as_deref(),
-                layers: layers_of(*numbers, *nodes, *lint),
+                layers: layers_of(*numbers, *heights, *grid, *crop, *nodes, *lint),
                 out: out.as_deref(),
             };
             picture_file(rt, file.as_str(), wanted, writer, faults, why)

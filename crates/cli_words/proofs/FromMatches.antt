@@ -20,9 +20,10 @@ use Rattle.clap.specs.declared.parser.matches.Found.{Found}
 use Rattle.clap.proofs.WalkLemmas.{one_text-rows}
 use Rattle.cli_words.specs.App.{leveled_app}
 use Rattle.cli_words.specs.Request.{HasMoreThanFile, HasNumber, HasSurplus, IsSubcommand, LacksNumber, LacksValue, RefusesRead, RefusesValues}
+use Rattle.cli_words.specs.Boxes.{HasNoBox}
 use Rattle.cli_words.specs.RuleWords.{HasUnknownWord}
 use Rattle.cli_words.specs.declared.asked.RequestError.{RequestError}
-use Rattle.cli_words.specs.declared.asked.RequestError.TheVariants.{Words, Codes, Number, Surplus, WholeAlone, NotARule, Memory}
+use Rattle.cli_words.specs.declared.asked.RequestError.TheVariants.{Words, Codes, Number, Surplus, WholeAlone, NotARule, NotABox, Memory}
 
 pub is_simple-leveled : is_simple leveled_app ≡ true
 unfolding clap_on_literals
@@ -152,6 +153,7 @@ refuses words name rows Number is lacks = asks (subcommand_of leveled_app words)
 refuses words name rows Surplus is has = asks (subcommand_of leveled_app words) name rows HasSurplus is has
 refuses words name rows WholeAlone is has = asks (subcommand_of leveled_app words) name rows HasMoreThanFile is has
 refuses words name rows (NotARule word) is has = asks (subcommand_of leveled_app words) name rows (HasUnknownWord (string_bytes word)) is has
+refuses words name rows (NotABox text) is has = asks (subcommand_of leveled_app words) name rows (HasNoBox (string_bytes text)) is has
 refuses words name rows Memory is told = tt
 
 -- ---- The values
