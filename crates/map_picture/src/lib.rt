@@ -20,6 +20,7 @@ mod view;
 
 pub use floors::Heights;
 pub use groups::Group;
+pub use longest::longest_line;
 pub use options::{PictureError, PictureOptions};
 pub use parts::Part;
 pub use picture::write_picture;
