@@ -10,7 +10,7 @@ use Rattle.cli_words.specs.declared.asked.RequestError.{RequestError}
 use Rattle.cli_words.specs.declared.asked.RequestError.TheVariants.{Memory, NotABox}
 
 -- the text writes the number of 16 bits: digits, after a sign or none
-pub record Writes (text : Text) (n : ℤ) : Type 0 where
+pub record WritesNumber (text : Text) (n : ℤ) : Type 0 where
   pub numeral : IsNumeral 10 (without_leading_sign text)
   pub fits : FitsSigned w16 (signed_digits_value 10 text)
   pub is : n ≡ signed_digits_value 10 text
@@ -20,9 +20,9 @@ abbrev pub is_comma : ℕ → Bool
 is_comma byte = byte == 44
 
 -- the text writes the number before its first comma, and behind the comma is this
-pub record Begins (text : Text) (n : ℤ) (behind : Text) : Type 0 where
+pub record HasFirstNumber (text : Text) (n : ℤ) (behind : Text) : Type 0 where
   pub comma : IsTrue (list_any is_comma text)
-  pub number : Writes (before_first is_comma text) n
+  pub number : WritesNumber (before_first is_comma text) n
   pub is : behind ≡ after_first is_comma text
 
 -- the box with these two corners
@@ -42,10 +42,10 @@ pub record WritesBox (text : Text) (b : Bounds) : Type 0 where
   pub behind_x1 : Text
   pub behind_y1 : Text
   pub behind_x2 : Text
-  pub x1 : Begins text a.x behind_x1
-  pub y1 : Begins behind_x1 a.y behind_y1
-  pub x2 : Begins behind_y1 c.x behind_x2
-  pub y2 : Writes behind_x2 c.y
+  pub x1 : HasFirstNumber text a.x behind_x1
+  pub y1 : HasFirstNumber behind_x1 a.y behind_y1
+  pub x2 : HasFirstNumber behind_y1 c.x behind_x2
+  pub y2 : WritesNumber behind_x2 c.y
   pub wide : a.x ≢ c.x
   pub high : a.y ≢ c.y
   pub is : b ≡ box_between a c
@@ -62,7 +62,8 @@ WritesNoBox text = (b : Bounds) → ¬ WritesBox text b
 
 -- why the box of `--crop` can't be had: its text writes none, or there is no memory
 abbrev pub RefusesCrop : Option Text → RequestError → Type 0
-RefusesCrop given (NotABox text) = (given ≡ Some (string_bytes text)) × WritesNoBox (string_bytes text)
+RefusesCrop given (NotABox text) =
+    (given ≡ Some (string_bytes text)) × WritesNoBox (string_bytes text)
 RefusesCrop given Memory = Unit {0}
 RefusesCrop given _ = ⊥
 

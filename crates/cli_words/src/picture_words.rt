@@ -1,7 +1,7 @@
 //! The request to draw a map as a picture.
 ghost use Rattle.std.specs.Prelude.{◌≡◌, IfErr, IfOk, IfNone, IfSome, Some, ℤ, codes, first_of};
 ghost use Rattle.clap.specs.Words.{Text, first_of, found_of, rows_of};
-ghost use Rattle.cli_words.specs.Boxes.{Begins, IsCropAsked, RefusesCrop, Writes, WritesBox, box_between};
+ghost use Rattle.cli_words.specs.Boxes.{HasFirstNumber, IsCropAsked, RefusesCrop, WritesNumber, WritesBox, box_between};
 ghost use Rattle.cli_words.specs.Request.{AsksFor, RefusesValues};
 
 use crate::asked::{Request, RequestError};
@@ -12,8 +12,8 @@ use std::alloc::Global;
 
 // The coordinate that the text writes.
 fn coordinate(text: &str) -> Option<i16>
-    ensures some { IfSome result (Writes text.now) }
-    ensures none { IfNone result ((n : ℤ) → ¬ Writes text.now n) }
+    ensures some { IfSome result (WritesNumber text.now) }
+    ensures none { IfNone result ((n : ℤ) → ¬ WritesNumber text.now n) }
 {
     match text.parse::<i16>() {
         Ok(n) => Some(n),
@@ -23,8 +23,8 @@ fn coordinate(text: &str) -> Option<i16>
 
 // The coordinate before the first comma, and the text behind it.
 fn first_coordinate<'a>(text: &'a str) -> Option<(i16, &'a str)>
-    ensures some { IfSome result (λ p. Begins text.now p.0 p.1.now) }
-    ensures none { IfNone result ((n : ℤ) (rest : Text) → ¬ Begins text.now n rest) }
+    ensures some { IfSome result (λ p. HasFirstNumber text.now p.0 p.1.now) }
+    ensures none { IfNone result ((n : ℤ) (rest : Text) → ¬ HasFirstNumber text.now n rest) }
 {
     let Some((first, rest)) = text.split_once(',') else {
         return None;

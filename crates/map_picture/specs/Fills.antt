@@ -20,13 +20,13 @@ use Rattle.map_picture.specs.Items.{sector_of}
 use Rattle.map_picture.specs.declared.floors.Heights.{Heights}
 
 -- whether the finding says that the sector isn't closed
-abbrev pub opens : ℕ → Finding → Bool
-opens n (SectorOpen sector vertex) = sector == n
-opens n _ = false
+abbrev pub tells_open : ℕ → Finding → Bool
+tells_open n (SectorOpen sector vertex) = sector == n
+tells_open n _ = false
 
 -- whether one of the findings says that the sector isn't closed
-abbrev pub is_open : List Finding → ℕ → Bool
-is_open found n = list_any (opens n) found
+abbrev pub is_found_open : List Finding → ℕ → Bool
+is_found_open found n = list_any (tells_open n) found
 
 -- the triangle of an edge and the picture's origin, as a way from the origin and back
 unfoldable pub edge_text : Spot → Spot → List ℕ
@@ -73,8 +73,8 @@ unfoldable pub flats_text : Sector → List ℕ
 flats_text s = name_text s.floor_name ++ codes " " ++ name_text s.ceiling_name
 
 -- the light, the special and the tag of the sector, and the element's end
-unfoldable pub fields_text : Sector → List ℕ
-fields_text s =
+unfoldable pub sector_fields : Sector → List ℕ
+sector_fields s =
     joined
     (codes ", light " ∷ signed_decimal s.light ∷ codes ", special " ∷ signed_decimal s.special
     ∷ codes ", tag " ∷ signed_decimal s.tag ∷ codes "</title></path>\n" ∷ [])
@@ -83,11 +83,11 @@ fields_text s =
 unfoldable pub fill_text : Tables → Heights → ℕ → Sector → List ℕ
 fill_text m h n s =
     fill_opening n (floor_colour h s.floor) ++ area_text m n ++ heights_text n s ++ flats_text s
-    ++ fields_text s
+    ++ sector_fields s
 
 -- the element of the sector with the number, empty if `check` finds that the sector isn't closed
 abbrev pub nth_fill : Tables → Heights → ℕ → List ℕ
-nth_fill m h n = if is_open (findings m) n then [] else of_item (fill_text m h n) m.sectors n
+nth_fill m h n = if is_found_open (findings m) n then [] else of_item (fill_text m h n) m.sectors n
 
 -- the elements of the closed sectors, in the order of the sectors
 abbrev pub all_fills : Tables → Heights → List ℕ

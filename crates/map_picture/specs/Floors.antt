@@ -10,13 +10,13 @@ abbrev pub heights_with : Heights → ℤ → Heights
 heights_with h floor = record { low = int_min h.low floor; high = int_max h.high floor }
 
 -- the heights, if there are such, with the floor of one more sector
-abbrev pub widened : Option Heights → Sector → Option Heights
-widened None s = Some (record { low = s.floor; high = s.floor })
-widened (Some h) s = Some (heights_with h s.floor)
+abbrev pub with_floor : Option Heights → Sector → Option Heights
+with_floor None s = Some (record { low = s.floor; high = s.floor })
+with_floor (Some h) s = Some (heights_with h s.floor)
 
 -- the heights from the least floor of a map to the greatest, if it has a sector
 abbrev pub floor_heights : Tables → Option Heights
-floor_heights m = fold widened None m.sectors
+floor_heights m = fold with_floor None m.sectors
 
 -- how many heights there are
 abbrev pub count_of_heights : Heights → ℕ

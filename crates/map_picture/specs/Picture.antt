@@ -102,7 +102,7 @@ picture_of options m o =
     ++ map_text options.numbers m view o ++ closing_text options
 
 -- why there is no picture: no memory for the findings of the map, with nothing written; or the writer failed
-abbrev pub IsRefused : PictureOptions → Option (List ℕ) → Option (List ℕ) → PictureError → Type 0
-IsRefused options writer-old writer-new OutOfMemory =
+abbrev pub IsNotPictured : PictureOptions → Option (List ℕ) → Option (List ℕ) → PictureError → Type 0
+IsNotPictured options writer-old writer-new OutOfMemory =
     (options.heights ≡ true) × Keeps writer-old writer-new
-IsRefused options writer-old writer-new WriterFailed = Unit {0}
+IsNotPictured options writer-old writer-new WriterFailed = Unit {0}

@@ -93,8 +93,8 @@ style_text =
 -- the rules of the legend, the scale, the grid and the filled sectors
 abbrev pub sheet_rules : List (List ℕ)
 sheet_rules =
-    (codes ".grid{stroke:#94a3b8;stroke-opacity:.35;stroke-width:65536px;"
-    ++ codes "stroke-dasharray:2 62;stroke-dashoffset:1;stroke-linecap:butt;vector-effect:none}")
+    codes ".grid{stroke:#94a3b8;stroke-opacity:.35;stroke-linecap:butt;vector-effect:none}"
+    ∷ codes ".grid{stroke-width:65536px;stroke-dasharray:2 62;stroke-dashoffset:1}"
     ∷ codes "[class^=floor]{fill-opacity:.55}"
     ∷ codes ".floor0{fill:#2c5aa0}"
     ∷ codes ".floor1{fill:#4a86c5}"

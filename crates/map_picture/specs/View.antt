@@ -61,8 +61,8 @@ view_round (Some b) = view_of_box b
 view_round None = view_of_box (box_at (record { x = pos 0; y = pos 0 }))
 
 -- what the picture of the whole map shows
-abbrev pub view_of_map : Tables → View
-view_of_map m = view_round (picture_box m)
+abbrev pub whole_view : Tables → View
+whole_view m = view_round (picture_box m)
 
 -- the distance between two coordinates
 abbrev pub distance : ℤ → ℤ → ℕ
@@ -84,4 +84,4 @@ view_within b =
 -- what the picture shows: the box that is asked for, or the whole map
 abbrev pub view_of : Option Bounds → Tables → View
 view_of (Some b) m = view_within b
-view_of None m = view_of_map m
+view_of None m = whole_view m

@@ -2,7 +2,7 @@
 ghost use Rattle.std.specs.Prelude.{◌≡◌, OnOk};
 ghost use Rattle.std.specs.Io.KnownBytes.{Appends};
 ghost use Rattle.map_checks.specs.Findings.{findings};
-ghost use Rattle.map_picture.specs.Fills.{all_fills, area_text, border_text, edge_text, fields_text, fill_opening, fill_text, flats_text, heights_text, is_open, nth_border, nth_fill, opens};
+ghost use Rattle.map_picture.specs.Fills.{all_fills, area_text, border_text, edge_text, sector_fields, fill_opening, fill_text, flats_text, heights_text, is_found_open, nth_border, nth_fill, tells_open};
 
 use crate::floors::{Heights, floor_colour};
 use crate::items::sector_of;
@@ -14,8 +14,8 @@ use map_tables::{Kind, Map};
 use std::io::Write;
 
 // Whether the finding says that the sector isn't closed.
-fn opens(n: u32, finding: &Finding) -> bool
-    ensures { result ≡ opens n finding.now }
+fn tells_open(n: u32, finding: &Finding) -> bool
+    ensures { result ≡ tells_open n finding.now }
 {
     match finding {
         Finding::SectorOpen { sector, .. } => *sector == n,
@@ -24,10 +24,10 @@ fn opens(n: u32, finding: &Finding) -> bool
 }
 
 // Whether one of the findings says that the sector isn't closed.
-fn is_open(found: &[Finding], n: u32) -> bool
-    ensures { result ≡ is_open found.now n }
+fn is_found_open(found: &[Finding], n: u32) -> bool
+    ensures { result ≡ is_found_open found.now n }
 {
-    found.iter().any(|finding| opens(n, finding))
+    found.iter().any(|finding| tells_open(n, finding))
 }
 
 // Writes the triangle of an edge and the picture's origin, as a way from there and back.
@@ -131,7 +131,7 @@ fn write_flats<W: Write>(sector: &Sector, writer: &mut W) -> Result<(), WriterFa
 // Writes the light, the special and the tag of the sector, and ends the element.
 fn write_fields<W: Write>(sector: &Sector, writer: &mut W) -> Result<(), WriterFailed>
     ensures { OnOk result
-        (Appends (W.contents writer.old) (W.contents writer.new) (fields_text sector.now)) }
+        (Appends (W.contents writer.old) (W.contents writer.new) (sector_fields sector.now)) }
 {
     let (light, special, tag) = (sector.light, sector.special, sector.tag);
     write!(
@@ -172,7 +172,7 @@ fn write_nth<W: Write>(
     ensures { OnOk result (Appends (W.contents writer.old) (W.contents writer.new)
         (nth_fill map.now.tables heights n)) }
 {
-    if is_open(found, n) {
+    if is_found_open(found, n) {
         return Ok(());
     }
     match map.sector(n) {

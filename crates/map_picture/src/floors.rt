@@ -1,7 +1,7 @@
 //! The heights of floors, and the steps of the scale by which sectors are filled.
 ghost use Rattle.std.specs.Prelude.{◌≡◌, ◌≤◌, slice_get};
 ghost use Rattle.std.specs.Option.{option_map_or};
-ghost use Rattle.map_picture.specs.Floors.{colour_of, count_of_heights, first_height, floor_colour, floor_heights, heights_with, last_height, step_count, step_of_floor, widened};
+ghost use Rattle.map_picture.specs.Floors.{colour_of, count_of_heights, first_height, floor_colour, floor_heights, heights_with, last_height, step_count, step_of_floor, with_floor};
 
 use lump_records::Sector;
 use map_tables::{Kind, Map};
@@ -32,8 +32,8 @@ fn heights_with(heights: Heights, height: i16) -> Heights
 }
 
 // The heights, if there are such, with the floor of one more sector.
-fn widened(heights: Option<Heights>, sector: Sector) -> Option<Heights>
-    ensures { result ≡ widened heights sector }
+fn with_floor(heights: Option<Heights>, sector: Sector) -> Option<Heights>
+    ensures { result ≡ with_floor heights sector }
 {
     match heights {
         Some(heights) => Some(heights_with(heights, sector.floor)),
@@ -47,10 +47,10 @@ fn widened(heights: Option<Heights>, sector: Sector) -> Option<Heights>
 // The heights, if there are such, with the floor of the sector with the number.
 fn with_sector(map: &Map, n: u32, heights: Option<Heights>) -> Option<Heights>
     ensures { result
-        ≡ option_map_or (widened heights) (slice_get map.now.tables.sectors n) heights }
+        ≡ option_map_or (with_floor heights) (slice_get map.now.tables.sectors n) heights }
 {
     match map.sector(n) {
-        Some(sector) => widened(heights, sector),
+        Some(sector) => with_floor(heights, sector),
         None => heights,
     }
 }

@@ -2,7 +2,7 @@
 ghost use Rattle.std.specs.Prelude.{◌≡◌, ◌≢◌, ◌≤◌, IfErr, IfOk, OnOk, flat_map, true};
 ghost use Rattle.std.specs.Io.KnownBytes.{Appends};
 ghost use Rattle.map_checks.specs.Findings.{findings};
-ghost use Rattle.map_picture.specs.Picture.{IsRefused, element, head_text, opening_text, map_text, map_title, page_corner, page_text, paper_text, part_text, picture_of};
+ghost use Rattle.map_picture.specs.Picture.{IsNotPictured, element, head_text, opening_text, map_text, map_title, page_corner, page_text, paper_text, part_text, picture_of};
 ghost use Rattle.map_picture.specs.Style.{style_text};
 
 use crate::lines::write_line;
@@ -265,7 +265,8 @@ pub fn write_picture<W: Write>(
 ) -> Result<(), PictureError>
     ensures written { OnOk result (Appends (W.contents writer.old) (W.contents writer.new)
         (picture_of options map.now.tables overlay.now)) }
-    ensures refused { IfErr result (IsRefused options (W.contents writer.old) (W.contents writer.new)) }
+    ensures refused { IfErr result (IsNotPictured options
+        (W.contents writer.old) (W.contents writer.new)) }
 {
     let Ok(found) = found_of(alloc, map, options.heights) else {
         return Err(PictureError::OutOfMemory);

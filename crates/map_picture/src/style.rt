@@ -74,7 +74,8 @@ text{stroke:#111}
 
 /// How the legend, the scale, the grid and the filled sectors look, in a light and in a dark scheme.
 pub const SHEET_STYLE: &str = "<style type=\"text/css\">
-.grid{stroke:#94a3b8;stroke-opacity:.35;stroke-width:65536px;stroke-dasharray:2 62;stroke-dashoffset:1;stroke-linecap:butt;vector-effect:none}
+.grid{stroke:#94a3b8;stroke-opacity:.35;stroke-linecap:butt;vector-effect:none}
+.grid{stroke-width:65536px;stroke-dasharray:2 62;stroke-dashoffset:1}
 [class^=floor]{fill-opacity:.55}
 .floor0{fill:#2c5aa0}
 .floor1{fill:#4a86c5}

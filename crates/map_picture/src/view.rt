@@ -1,7 +1,7 @@
 //! The part of the plane that the picture shows.
 ghost use Rattle.std.specs.Prelude.{◌≡◌, ◌≤◌, ◌-ℤ◌, pos, neg_ℤ, slice_get};
 ghost use Rattle.std.specs.Option.{option_map_or};
-ghost use Rattle.map_picture.specs.View.{box_at, picture_box, box_of_vertices, box_with, grown, distance, grown_by, picture_side, step_of, view_of, view_of_box, view_of_map, view_within};
+ghost use Rattle.map_picture.specs.View.{box_at, picture_box, box_of_vertices, box_with, grown, distance, grown_by, picture_side, step_of, view_of, view_of_box, whole_view, view_within};
 
 use lump_records::{Bounds, Vertex};
 use map_svg::box_round;
@@ -167,8 +167,8 @@ fn view_within(bounds: Bounds) -> View
 }
 
 // What the picture of the whole map shows.
-fn view_of_map(map: &Map) -> View
-    ensures view { result ≡ view_of_map map.now.tables }
+fn whole_view(map: &Map) -> View
+    ensures view { result ≡ whole_view map.now.tables }
     ensures width { result.width ≤ 65663 }
     ensures bound { result.step ≤ 1000 }
 {
@@ -186,6 +186,6 @@ pub(crate) fn view_of(map: &Map, crop: Option<Bounds>) -> View
 {
     match crop {
         Some(bounds) => view_within(bounds),
-        None => view_of_map(map),
+        None => whole_view(map),
     }
 }

@@ -53,10 +53,10 @@ const GROUND: &[u8] = br#"<g id="legend" font-size="1.6em" transform="translate(
 "#;
 
 // The room, from (0,0) along each of its lines and back; the other sector isn't filled.
-const FILLS: &[u8] =
-    br#"<path id="sector0" class="floor0" fill-rule="evenodd" d="M0 0L0 0 0 -128 0 0L0 -128 128 -128 0 0L128 -128 128 0 0 0L128 0 0 0 0 0">
+const FILLS: &[u8] = b"<path id=\"sector0\" class=\"floor0\" fill-rule=\"evenodd\" \
+d=\"M0 0L0 0 0 -128 0 0L0 -128 128 -128 0 0L128 -128 128 0 0 0L128 0 0 0 0 0\">
 <title>sector 0: floor 0, ceiling 128, flats FLOOR4_8 CEIL3_5, light 160, special 0, tag 0</title></path>
-"#;
+";
 
 const MAP: &[u8] = br#"<g id="line0" class="one">
 <title>line 0: vertices 0 1, flags 1, special 0, tag 0, right side 0 (sector 0), no left side</title>

@@ -1,6 +1,6 @@
 use Rattle.std.proofs.Common.{◌∙◌, ◌<◌, None, [], length, arith, pos}
 use Rattle.lump_records.specs.declared.records.Sector.{Sector}
-use Rattle.map_picture.specs.Floors.{widened}
+use Rattle.map_picture.specs.Floors.{with_floor}
 use Rattle.map_svg.proofs.Growing.{folded_more}
 use Rattle.map_picture.proofs.floors.floor_heights.Goals as goal
 
@@ -19,4 +19,4 @@ loop-n-preserved c =
       tag = pos 0;
     } in
     c.with_sector-heights.ensures
-    ∙ folded_more widened None sectors c.loop-n.n none within c.loop-n.heights c.loop-n.invariant
+    ∙ folded_more with_floor None sectors c.loop-n.n none within c.loop-n.heights c.loop-n.invariant
