@@ -1,5 +1,5 @@
 -- The box of `picture --crop`: X1,Y1,X2,Y2.
-use Rattle.std.specs.Prelude.{◌≡◌, ◌≢◌, ◌<◌, ℕ, ℤ, Bool, ◌==◌, Option, None, Some, List, length, IsTrue, FitsSigned, codes, string_bytes}
+use Rattle.std.specs.Prelude.{◌≡◌, ◌≢◌, ℕ, ℤ, Bool, ◌==◌, Option, None, Some, List, true, FitsSigned, codes, string_bytes}
 use Rattle.std.specs.Int.{int_max, int_min, w16}
 use Rattle.std.specs.List.{after_first, before_first, list_any}
 use Rattle.std.specs.Str.Parse.{IsNumeral, signed_digits_value, without_leading_sign}
@@ -21,7 +21,7 @@ is_comma byte = byte == 44
 
 -- the text writes the number before its first comma, and behind the comma is this
 pub record HasFirstNumber (text : Text) (n : ℤ) (behind : Text) : Type 0 where
-  pub comma : IsTrue (list_any is_comma text)
+  pub comma : list_any is_comma text ≡ true
   pub number : WritesNumber (before_first is_comma text) n
   pub is : behind ≡ after_first is_comma text
 

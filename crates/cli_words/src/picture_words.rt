@@ -1,5 +1,5 @@
 //! The request to draw a map as a picture.
-ghost use Rattle.std.specs.Prelude.{◌≡◌, IfErr, IfOk, IfNone, IfSome, Some, ℤ, codes, first_of};
+ghost use Rattle.std.specs.Prelude.{◌≡◌, IfErr, IfOk, IfNone, IfSome, Some, ℤ, codes};
 ghost use Rattle.clap.specs.Words.{Text, first_of, found_of, rows_of};
 ghost use Rattle.cli_words.specs.Boxes.{HasFirstNumber, IsCropAsked, RefusesCrop, WritesNumber, WritesBox, box_between};
 ghost use Rattle.cli_words.specs.Request.{AsksFor, RefusesValues};
@@ -72,7 +72,8 @@ fn box_in(text: &str) -> Option<Bounds>
 
 // The box of `--crop`, if it is given.
 fn asked_crop(alloc: Global, found: &ArgMatches<'_>) -> Result<Option<Bounds>, RequestError>
-    ensures given { IfOk result (IsCropAsked (first_of (codes "crop") (rows_of (found_of found.now)))) }
+    ensures given { IfOk result (IsCropAsked (first_of (codes "crop")
+        (rows_of (found_of found.now)))) }
     ensures refused { IfErr result (RefusesCrop (first_of (codes "crop")
         (rows_of (found_of found.now)))) }
 {
