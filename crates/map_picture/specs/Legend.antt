@@ -35,11 +35,21 @@ row_opening row colour =
     ∷ codes "em\" width=\"2em\" height=\"2em\"/>\n<text x=\"3.6em\" y=\""
     ∷ decimal (7 + 2 * row) ∷ codes "em\">" ∷ [])
 
+-- the least height of a step of several
+unfoldable pub first_text : ℤ → List ℕ
+first_text first = joined (signed_decimal first ∷ codes " to " ∷ [])
+
+-- the same, unless it is the only one
+abbrev pub unless_only : ℤ → ℤ → List ℕ
+unless_only first last = if int_eq first last then [] else first_text first
+
+-- the greatest height of a step, and the row's end
+unfoldable pub last_text : ℤ → List ℕ
+last_text last = joined (signed_decimal last ∷ codes "</text>\n" ∷ [])
+
 -- the heights of a step: from the least to the greatest, or the only one
 unfoldable pub range_text : ℤ → ℤ → List ℕ
-range_text first last =
-    (if int_eq first last then [] else signed_decimal first ++ codes " to ")
-    ++ signed_decimal last ++ codes "</text>\n"
+range_text first last = unless_only first last ++ last_text last
 
 -- a row of the legend; the greatest heights are in the first one
 unfoldable pub row_text : Heights → ℕ → List ℕ

@@ -102,7 +102,8 @@ picture_of options m o =
     ++ map_text options.numbers m view o ++ closing_text options
 
 -- why there is no picture: no memory for the findings of the map, with nothing written; or the writer failed
-abbrev pub IsNotPictured : PictureOptions → Option (List ℕ) → Option (List ℕ) → PictureError → Type 0
+abbrev pub IsNotPictured : PictureOptions → Option (List ℕ) → Option (List ℕ) → PictureError
+    → Type 0
 IsNotPictured options writer-old writer-new OutOfMemory =
     (options.heights ≡ true) × Keeps writer-old writer-new
 IsNotPictured options writer-old writer-new WriterFailed = Unit {0}

@@ -93,6 +93,7 @@ fn write_area<W: Write>(map: &Map, sector: u32, writer: &mut W) -> Result<(), Wr
 }
 
 // Writes the beginning of the element of a sector: its id, the class of its colour, and the beginning of its path.
+#[tactic(auto, unfolding(crate::specs::Fills::fill_opening))]
 fn write_opening<W: Write>(n: u32, colour: u32, writer: &mut W) -> Result<(), WriterFailed>
     ensures { OnOk result
         (Appends (W.contents writer.old) (W.contents writer.new) (fill_opening n colour)) }

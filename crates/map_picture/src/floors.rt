@@ -1,5 +1,5 @@
 //! The heights of floors, and the steps of the scale by which sectors are filled.
-ghost use Rattle.std.specs.Prelude.{◌≡◌, ◌≤◌, slice_get};
+ghost use Rattle.std.specs.Prelude.{◌≡◌, ◌≤◌, ◌-ℤ◌, slice_get, unsigned_abs};
 ghost use Rattle.std.specs.Option.{option_map_or};
 ghost use Rattle.map_picture.specs.Floors.{colour_of, count_of_heights, first_height, floor_colour, floor_heights, heights_with, last_height, step_count, step_of_floor, with_floor};
 
@@ -84,13 +84,20 @@ pub(crate) fn step_count(heights: Heights) -> u32
     count_of_heights(heights).min(8)
 }
 
+// How far a floor is from the least one.
+fn height_above(heights: Heights, floor: i16) -> u32
+    ensures value { result ≡ unsigned_abs (floor -ℤ heights.low) }
+    ensures bound { result ≤ 65535 }
+{
+    (i32::from(floor) - i32::from(heights.low)).unsigned_abs()
+}
+
 // The step of a floor.
 fn step_of_floor(heights: Heights, floor: i16) -> u32
     ensures step { result ≡ step_of_floor heights floor }
     ensures bound { result ≤ 524280 }
 {
-    let above = (i32::from(floor) - i32::from(heights.low)).unsigned_abs();
-    above * step_count(heights) / count_of_heights(heights)
+    height_above(heights, floor) * step_count(heights) / count_of_heights(heights)
 }
 
 /// The colour of a step, from 0 to 7: those of few steps are apart.

@@ -2,7 +2,7 @@
 ghost use Rattle.std.specs.Prelude.{◌≡◌, ◌≤◌, ◌<◌, ◌+ℤ◌, pos, OnOk};
 ghost use Rattle.std.specs.Io.KnownBytes.{Appends};
 ghost use Rattle.map_picture.specs.Floors.{floor_heights, step_count};
-ghost use Rattle.map_picture.specs.Legend.{colours_text, legend_opening, legend_text, range_text, row_opening, row_text, rows_text, scale_of_heights, scale_text};
+ghost use Rattle.map_picture.specs.Legend.{colours_text, first_text, last_text, unless_only, legend_opening, legend_text, range_text, row_opening, row_text, rows_text, scale_of_heights, scale_text};
 
 use crate::floors::{Heights, colour_of, first_height, floor_heights, last_height, step_count};
 use crate::options::PictureOptions;
@@ -49,6 +49,7 @@ fn write_scale<W: Write>(grid: bool, writer: &mut W) -> Result<(), WriterFailed>
 }
 
 // Writes a step's colour, and the beginning of its text.
+#[tactic(auto, unfolding(crate::specs::Legend::row_opening))]
 fn write_row_opening<W: Write>(row: u32, colour: u32, writer: &mut W) -> Result<(), WriterFailed>
     requires { row ≤ 8 }
     ensures { OnOk result
@@ -63,16 +64,44 @@ fn write_row_opening<W: Write>(row: u32, colour: u32, writer: &mut W) -> Result<
     Ok(())
 }
 
+// Writes the least height of a step of several.
+fn write_first<W: Write>(first: i32, writer: &mut W) -> Result<(), WriterFailed>
+    ensures { OnOk result
+        (Appends (W.contents writer.old) (W.contents writer.new) (first_text first)) }
+{
+    write!(writer, "{first} to ")?;
+    Ok(())
+}
+
+// Writes the least height of a step, unless it is the only one.
+fn write_unless_only<W: Write>(first: i32, last: i32, writer: &mut W) -> Result<(), WriterFailed>
+    ensures { OnOk result
+        (Appends (W.contents writer.old) (W.contents writer.new) (unless_only first last)) }
+{
+    if first == last {
+        Ok(())
+    } else {
+        write_first(first, writer)
+    }
+}
+
+// Writes the greatest height of a step, and ends the row.
+fn write_last<W: Write>(last: i32, writer: &mut W) -> Result<(), WriterFailed>
+    ensures { OnOk result
+        (Appends (W.contents writer.old) (W.contents writer.new) (last_text last)) }
+{
+    write!(writer, "{last}</text>\n")?;
+    Ok(())
+}
+
 // Writes the heights of a step.
+#[tactic(auto, unfolding(crate::specs::Legend::range_text))]
 fn write_range<W: Write>(first: i32, last: i32, writer: &mut W) -> Result<(), WriterFailed>
     ensures { OnOk result
         (Appends (W.contents writer.old) (W.contents writer.new) (range_text first last)) }
 {
-    if first != last {
-        write!(writer, "{first} to ")?;
-    }
-    write!(writer, "{last}</text>\n")?;
-    Ok(())
+    write_unless_only(first, last, writer)?;
+    write_last(last, writer)
 }
 
 // Writes the row of a step.

@@ -1,5 +1,6 @@
 //! The part of the plane that the picture shows.
 ghost use Rattle.std.specs.Prelude.{◌≡◌, ◌≤◌, ◌-ℤ◌, pos, neg_ℤ, slice_get};
+ghost use Rattle.std.specs.Int.{int_max, int_min};
 ghost use Rattle.std.specs.Option.{option_map_or};
 ghost use Rattle.map_picture.specs.View.{box_at, picture_box, box_of_vertices, box_with, grown, distance, grown_by, picture_side, step_of, view_of, view_of_box, whole_view, view_within};
 
@@ -147,6 +148,28 @@ fn distance(a: i16, b: i16) -> u32
     (i32::from(b) - i32::from(a)).unsigned_abs()
 }
 
+// The left edge of a box whose edges may be in any order.
+fn left_within(bounds: Bounds) -> i32
+    ensures { result ≡ int_min bounds.left bounds.right }
+{
+    if bounds.right < bounds.left {
+        i32::from(bounds.right)
+    } else {
+        i32::from(bounds.left)
+    }
+}
+
+// The upper edge of such a box.
+fn top_within(bounds: Bounds) -> i32
+    ensures { result ≡ neg_ℤ (int_max bounds.top bounds.bottom) }
+{
+    if bounds.top < bounds.bottom {
+        -i32::from(bounds.bottom)
+    } else {
+        -i32::from(bounds.top)
+    }
+}
+
 // The view of a box without a margin. Its edges may be in any order.
 fn view_within(bounds: Bounds) -> View
     ensures view { result ≡ view_within bounds }
@@ -158,8 +181,8 @@ fn view_within(bounds: Bounds) -> View
         distance(bounds.bottom, bounds.top),
     );
     View {
-        left: i32::from(bounds.left.min(bounds.right)),
-        top: -i32::from(bounds.top.max(bounds.bottom)),
+        left: left_within(bounds),
+        top: top_within(bounds),
         width,
         height,
         step: step_of(width, height),
