@@ -18,7 +18,7 @@ _leveled() {
         [ "$subcommand" = lint ] && flags='--iwad --only --except --help'
         [ "$subcommand" = dump ] && flags='--exact --salvage --help'
         [ "$subcommand" = draw ] && flags='--check --verbose --help'
-        [ "$subcommand" = picture ] && flags='--out --numbers --nodes --lint --help'
+        [ "$subcommand" = picture ] && flags='--out --numbers --nodes --lint --heights --grid --crop --help'
         [ "$subcommand" = rebuild ] && flags='--map --help'
         mapfile -t COMPREPLY < <(compgen -W "$flags" -- "$word")
         ;;

@@ -28,6 +28,9 @@ complete -c leveled -n "__fish_seen_subcommand_from picture" -l out -r -d 'Write
 complete -c leveled -n "__fish_seen_subcommand_from picture" -l numbers -d 'Add the numbers of items'
 complete -c leveled -n "__fish_seen_subcommand_from picture" -l nodes -d 'Add the tree of the level'
 complete -c leveled -n "__fish_seen_subcommand_from picture" -l lint -d 'Mark what lint prints'
+complete -c leveled -n "__fish_seen_subcommand_from picture" -l heights -d 'Fill sectors by the heights of their floors'
+complete -c leveled -n "__fish_seen_subcommand_from picture" -l grid -d 'Add a grid of 64 units'
+complete -c leveled -n "__fish_seen_subcommand_from picture" -l crop -x -d 'Show only the box X1,Y1,X2,Y2'
 complete -c leveled -n "__fish_seen_subcommand_from rebuild" -l map -x -d 'Build this level anew'
 complete -c leveled -n "__fish_seen_subcommand_from scratch help" -f
 complete -c leveled -n "__fish_seen_subcommand_from help" -f -a 'scratch create edit check lint draw dump picture build rebuild inspect codes'

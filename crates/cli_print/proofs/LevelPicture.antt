@@ -24,7 +24,7 @@ level_drawn layers name into wad (Ok status) u w l m o wanted none is laid done 
   subst (λ (t : Tables). IsLaidOverLevel layers wad l t o) is laid,
   subst (λ (t : Tables). IsDrawn layers t o into (Ok status) u w) is done,
 )
-level_drawn layers name into wad (Err (Lines OutOfMemory)) u w l m o wanted none is laid (file, kept) = inl (inr (inr (inr refl)), kept)
+level_drawn layers name into wad (Err (Lines OutOfMemory)) u w l m o wanted none is laid (why, kept) = inl (inr (inr (inr refl)), kept)
 level_drawn layers name into wad (Err (Lines WriterFailed)) u w l m o wanted none is laid left = inr (refl, left)
 level_drawn layers name into wad (Err (Lines InputTooLong)) u w l m o wanted none is laid never = absurd never
 level_drawn layers name into wad (Err (Lines ReaderFailed)) u w l m o wanted none is laid never = absurd never

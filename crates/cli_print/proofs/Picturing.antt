@@ -38,7 +38,8 @@ fails_here p ms n m d at fails = ap p (get_or_from_slice_get ms n m d at) ∙ fa
 pub drawn_to : (layers : Layers) (name : Option (List ℕ)) (into : Bool) (maps : MapsView) (how : Result ℕ Refusal) (u w : Option (List ℕ)) (m : Tables) (o : Overlay)
     → drawn_map name (project_of maps) ≡ Some m → IsLaidOver layers m o → IsDrawn layers m o into how u w → IsPicturedOf layers name into maps how u w
 drawn_to layers name into maps (Ok status) u w m o at laid done = (m, o, at, laid, done)
-drawn_to layers name into maps (Err (Lines OutOfMemory)) u w m o at laid (file, kept) = (inl file, kept)
+drawn_to layers name into maps (Err (Lines OutOfMemory)) u w m o at laid (inl file, kept) = (inl file, kept)
+drawn_to layers name into maps (Err (Lines OutOfMemory)) u w m o at laid (inr heights, kept) = (inr (inl heights), kept)
 drawn_to layers name into maps (Err (Lines WriterFailed)) u w m o at laid left = left
 drawn_to layers name into maps (Err (Lines InputTooLong)) u w m o at laid never = absurd never
 drawn_to layers name into maps (Err (Lines ReaderFailed)) u w m o at laid never = absurd never

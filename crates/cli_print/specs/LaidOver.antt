@@ -1,5 +1,6 @@
 -- What a picture shows over the map (docs/COMMANDS.md, "The program").
-use Rattle.std.specs.Prelude.{◌≡◌, ℕ, Bool, true, false, List, [], None, map}
+use Rattle.std.specs.Prelude.{◌≡◌, ℕ, Bool, true, false, List, [], Option, None, map}
+use Rattle.lump_records.specs.declared.records.Bounds.{Bounds}
 use Rattle.map_tables.specs.Tables.{Tables}
 use Rattle.tree_nodes.specs.Built.{IsBuilt, IsTreeRefusal}
 use Rattle.tree_nodes.specs.declared.error.TreeError.{TreeError}
@@ -12,6 +13,15 @@ use Rattle.run_edit.specs.declared.error.EditorError.TheVariants.{OutOfMemory}
 use Rattle.run_edit.specs.declared.error.WriteError.TheVariants as writing
 use Rattle.cli_refusals.specs.declared.refusal.Refusal.{Refusal}
 use Rattle.cli_refusals.specs.declared.refusal.Refusal.TheVariants as of
+
+-- what a picture shows by these wishes
+abbrev pub layers_of : Bool → Bool → Bool → Option Bounds → Bool → Bool → Layers
+layers_of numbers heights grid crop nodes lint =
+    record {
+      options = record { numbers = numbers; heights = heights; grid = grid; crop = crop };
+      nodes = nodes;
+      lint = lint;
+    }
 
 -- the tree that is shown: one that is built of the map, where it is wanted, and else none
 abbrev pub IsTreeShown : Bool → Tables → Overlay → Type 0

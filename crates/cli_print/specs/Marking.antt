@@ -9,10 +9,13 @@ use Rattle.map_checks.specs.declared.finding.Finding.{Finding}
 use Rattle.map_checks.specs.declared.finding.Finding.TheVariants.{VertexUnused, SideUnused, SectorUnused, TextureMissing, SectorOpen, NoPlayerStart}
 use Rattle.map_lint.specs.Rules.{warnings}
 use Rattle.map_lint.specs.Texts.{warning_text}
+use Rattle.map_lint.specs.declared.warning.Rule.{Rule}
+use Rattle.map_lint.specs.declared.warning.Rule.TheVariants.{SectorInside}
 use Rattle.map_lint.specs.declared.warning.Warning.{Warning}
 use Rattle.map_lint.specs.declared.whereabouts.Whereabouts.{Whereabouts}
 use Rattle.map_lint.specs.declared.whereabouts.Whereabouts.TheVariants.{Unplaced, Between}
 use Rattle.map_lint.specs.declared.whereabouts.Whereabouts.TheVariants as told
+use Rattle.map_picture.specs.Numbers.{longest_line}
 use Rattle.map_svg.specs.declared.marks.Mark.{Mark}
 use Rattle.map_svg.specs.declared.marks.MarkPlace.{MarkPlace}
 use Rattle.map_svg.specs.declared.marks.MarkPlace.TheVariants.{Along, At, Corner}
@@ -43,20 +46,34 @@ finding_place m (SideUnused n) = Corner
 finding_place m (SectorUnused n) = Corner
 finding_place m NoPlayerStart = Corner
 
+-- along the longest of the sector's lines
+abbrev pub mark_along_longest : Tables → ℕ → MarkPlace
+mark_along_longest m n =
+    option_map_or (λ l. Along (line_end m l.v1) (line_end m l.v2)) (longest_line m n) Corner
+
+-- where to look for a sector that is inside out; another warning without a place is in the corner
+abbrev pub place_by_rule : Tables → Rule → ℕ → MarkPlace
+place_by_rule m SectorInside n = mark_along_longest m n
+place_by_rule m _ n = Corner
+
 -- where to look for what a warning tells of
-abbrev pub warning_place : Whereabouts → MarkPlace
-warning_place Unplaced = Corner
-warning_place (told.At p) = At p
-warning_place (Between p q) = Along p q
+abbrev pub place_of_warning : Tables → Rule → ℕ → Whereabouts → MarkPlace
+place_of_warning m rule n Unplaced = place_by_rule m rule n
+place_of_warning m rule n (told.At p) = At p
+place_of_warning m rule n (Between p q) = Along p q
+
+-- the same of the whole warning
+abbrev pub warning_place : Tables → Warning → MarkPlace
+warning_place m w = place_of_warning m w.rule w.number w.whereabouts
 
 -- the mark of a finding: its place and its text
 abbrev pub finding_mark : Tables → Finding → MarkPlace × List ℕ
 finding_mark m f = (finding_place m f, finding_text f)
 
 -- the mark of a warning
-abbrev pub warning_mark : Warning → MarkPlace × List ℕ
-warning_mark w = (warning_place w.whereabouts, warning_text w)
+abbrev pub warning_mark : Tables → Warning → MarkPlace × List ℕ
+warning_mark m w = (warning_place m w, warning_text w)
 
 -- the marks of a map: one for each finding, then one for each warning
 abbrev pub marks_of : Tables → List (MarkPlace × List ℕ)
-marks_of m = map (finding_mark m) (findings m) ++ map warning_mark (warnings m)
+marks_of m = map (finding_mark m) (findings m) ++ map (warning_mark m) (warnings m)

@@ -1,11 +1,13 @@
 //! What a picture shows over the map: the tree that is built of it, and marks for its findings and warnings.
 ghost use Rattle.std.specs.Prelude.{◌≡◌, [], IfErr, IfOk, map, false, true};
 ghost use Rattle.wad_build.specs.Sound.{of_tree};
-ghost use Rattle.cli_print.specs.LaidOver.{IsLaidOver, IsTreeShown, NotLaidOver, marks_shown};
+ghost use Rattle.cli_print.specs.LaidOver.{IsLaidOver, IsTreeShown, NotLaidOver, layers_of, marks_shown};
 ghost use Rattle.cli_print.specs.Marking.{said_at};
 
 use crate::marking::marks_of;
 use cli_refusals::Refusal;
+use lump_records::Bounds;
+use map_picture::PictureOptions;
 use map_svg::{Mark, Overlay};
 use map_tables::Map;
 use run_edit::WriteError;
@@ -13,21 +15,33 @@ use std::alloc::Global;
 use tree_nodes::{Built, TreeError, build_tree};
 use wad_build::{BuildError, Unbuilt};
 
-/// What a picture shows besides the map: the numbers of vertices, lines and sectors, the tree that is built of the map,
-/// and marks for what `lint` writes.
+/// What a picture shows: the map with these options, the tree that is built of the map, and marks for what `lint`
+/// writes.
 #[derive(Clone, Copy)]
 pub struct Layers {
-    pub numbers: bool,
+    pub options: PictureOptions,
     pub nodes: bool,
     pub lint: bool,
 }
 
-/// These layers.
-pub fn layers_of(numbers: bool, nodes: bool, lint: bool) -> Layers
-    ensures { result ≡ record { numbers = numbers; nodes = nodes; lint = lint } }
+/// These layers: numbers, the heights of floors and a grid, the part of the map that is shown, the tree, and marks.
+pub fn layers_of(
+    numbers: bool,
+    heights: bool,
+    grid: bool,
+    crop: Option<Bounds>,
+    nodes: bool,
+    lint: bool,
+) -> Layers
+    ensures { result ≡ layers_of numbers heights grid crop nodes lint }
 {
     Layers {
-        numbers,
+        options: PictureOptions {
+            numbers,
+            heights,
+            grid,
+            crop,
+        },
         nodes,
         lint,
     }

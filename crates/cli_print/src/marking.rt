@@ -2,12 +2,13 @@
 ghost use Rattle.std.specs.Prelude.{◌≡◌, ◌++◌, ◌∷◌, [], List, ℕ, IfErr, IfOk, Some, map};
 ghost use Rattle.map_checks.specs.Texts.{finding_text};
 ghost use Rattle.map_lint.specs.Texts.{warning_text};
-ghost use Rattle.cli_print.specs.Marking.{line_end, finding_mark, finding_place, mark_along_line, mark_at_vertex, marks_of, said_at, warning_mark, warning_place};
+ghost use Rattle.cli_print.specs.Marking.{line_end, finding_mark, finding_place, mark_along_line, mark_along_longest, mark_at_vertex, marks_of, place_by_rule, said_at, warning_mark, warning_place};
 ghost use Rattle.run_edit.specs.declared.error.EditorError.TheVariants.{OutOfMemory};
 
 use lump_records::Vertex;
 use map_checks::{Finding, check};
-use map_lint::{Warning, Whereabouts};
+use map_lint::{Rule, Warning, Whereabouts};
+use map_picture::longest_line;
 use map_svg::{Mark, MarkPlace};
 use map_tables::Map;
 use run_edit::EditorError;
@@ -55,12 +56,32 @@ fn finding_place(drawn: &Map, finding: Finding) -> MarkPlace
     }
 }
 
-// The place of a warning.
-fn warning_place(whereabouts: Whereabouts) -> MarkPlace
-    ensures { result ≡ warning_place whereabouts }
+// The longest line of the sector with the number, from end to end.
+fn mark_along_longest(drawn: &Map, n: u32) -> MarkPlace
+    ensures { result ≡ mark_along_longest drawn.now.tables n }
 {
-    match whereabouts {
-        Whereabouts::Unplaced => MarkPlace::Corner,
+    match longest_line(drawn, n) {
+        Some(line) => MarkPlace::Along(line_end(drawn, line.v1), line_end(drawn, line.v2)),
+        None => MarkPlace::Corner,
+    }
+}
+
+// The place of a warning without whereabouts.
+fn place_by_rule(drawn: &Map, rule: Rule, n: u32) -> MarkPlace
+    ensures { result ≡ place_by_rule drawn.now.tables rule n }
+{
+    match rule {
+        Rule::SectorInside => mark_along_longest(drawn, n),
+        _ => MarkPlace::Corner,
+    }
+}
+
+// The place of a warning.
+fn warning_place(drawn: &Map, warning: &Warning) -> MarkPlace
+    ensures { result ≡ warning_place drawn.now.tables warning.now }
+{
+    match warning.whereabouts {
+        Whereabouts::Unplaced => place_by_rule(drawn, warning.rule, warning.number),
         Whereabouts::At(place) => MarkPlace::At(place),
         Whereabouts::Between(from, to) => MarkPlace::Along(from, to),
     }
@@ -108,12 +129,17 @@ fn add_finding(
 }
 
 // Adds the mark of a warning.
-fn add_warning(alloc: Global, warning: &Warning, marks: &mut Vec<Mark>) -> Result<(), EditorError>
+fn add_warning(
+    alloc: Global,
+    drawn: &Map,
+    warning: &Warning,
+    marks: &mut Vec<Mark>,
+) -> Result<(), EditorError>
     ensures added { IfOk result (λ _. map said_at marks.new.items
-        ≡ map said_at marks.old.items ++ warning_mark warning.now ∷ []) }
+        ≡ map said_at marks.old.items ++ warning_mark drawn.now.tables warning.now ∷ []) }
     ensures memory { IfErr result (λ e. e ≡ OutOfMemory) }
 {
-    match said_at(alloc, warning_place(warning.whereabouts), warning) {
+    match said_at(alloc, warning_place(drawn, warning), warning) {
         Ok(mark) => add(mark, marks),
         Err(error) => Err(error),
     }
@@ -140,13 +166,18 @@ fn add_findings(
 }
 
 // Adds the marks of warnings.
-fn add_warnings(alloc: Global, warned: &[Warning], marks: &mut Vec<Mark>) -> Result<(), EditorError>
+fn add_warnings(
+    alloc: Global,
+    drawn: &Map,
+    warned: &[Warning],
+    marks: &mut Vec<Mark>,
+) -> Result<(), EditorError>
     ensures added { IfOk result (λ _. map said_at marks.new.items
-        ≡ map said_at marks.old.items ++ map warning_mark warned.now) }
+        ≡ map said_at marks.old.items ++ map (warning_mark drawn.now.tables) warned.now) }
     ensures memory { IfErr result (λ e. e ≡ OutOfMemory) }
 {
     for warning in warned {
-        match add_warning(alloc, warning, marks) {
+        match add_warning(alloc, drawn, warning, marks) {
             Ok(()) => {}
             Err(error) => return Err(error),
         }
@@ -170,7 +201,7 @@ pub(crate) fn marks_of(alloc: Global, drawn: &Map) -> Result<Vec<Mark>, EditorEr
         Ok(()) => {}
         Err(error) => return Err(error),
     }
-    match add_warnings(alloc, &warned, &mut marks) {
+    match add_warnings(alloc, drawn, &warned, &mut marks) {
         Ok(()) => Ok(marks),
         Err(error) => Err(error),
     }

@@ -1,6 +1,6 @@
 //! What `picture` draws: a map as SVG.
-ghost use Rattle.std.specs.Prelude.{◌≡◌, ◌≤◌, ◌⊎◌, None, Some, IfErr, IfOk, MatchOption, find, is_some, option_map};
-ghost use Rattle.std.specs.Io.KnownBytes.{Appends};
+ghost use Rattle.std.specs.Prelude.{◌≡◌, ◌≤◌, ◌⊎◌, None, Some, IfErr, IfOk, MatchOption, find, is_some, option_map, true};
+ghost use Rattle.std.specs.Io.KnownBytes.{Appends, Keeps};
 ghost use Rattle.map_tables.specs.Projects.{project_of};
 ghost use Rattle.map_picture.specs.Picture.{picture_of};
 ghost use Rattle.cli_files.specs.NewFile.{IsMadeOf, file_of};
@@ -11,7 +11,7 @@ ghost use Rattle.cli_refusals.specs.declared.refusal.Refusal.{Refusal};
 use crate::laid_over::{Layers, laid_over};
 use cli_files::{Cause, Form, Hold, NewFile, open_new};
 use cli_refusals::{DONE, Refusal};
-use map_picture::{PictureOptions, write_picture};
+use map_picture::{PictureError, PictureOptions, write_picture};
 use map_svg::Overlay;
 use map_tables::{Map, Maps};
 use run_edit::EditorError;
@@ -75,7 +75,7 @@ fn picture_of(
     ensures refused { IfErr result (λ r. r ≡ Refusal.Lines OutOfMemory) }
 {
     let mut picture = Vec::new(alloc);
-    match write_picture(map, options, overlay, &mut picture) {
+    match write_picture(alloc, map, options, overlay, &mut picture) {
         Ok(()) => Ok(picture),
         Err(_) => Err(Refusal::Lines(EditorError::OutOfMemory)),
     }
@@ -141,6 +141,7 @@ where
 
 // Writes the picture of a map, and flushes the writer.
 fn show<W: Write>(
+    alloc: Global,
     map: &Map,
     options: PictureOptions,
     overlay: &Overlay,
@@ -149,16 +150,18 @@ fn show<W: Write>(
     ensures shown { IfOk result (λ status. (status ≡ 0)
         × Appends (W.contents writer.old) (W.contents writer.new)
         (picture_of options map.now.tables overlay.now)) }
-    ensures failed { IfErr result (λ r. r ≡ Refusal.Lines WriterFailed) }
+    ensures failed { IfErr result (λ r. (r ≡ Refusal.Lines WriterFailed)
+        ⊎ (r ≡ Refusal.Lines OutOfMemory) × (options.heights ≡ true)
+        × Keeps (W.contents writer.old) (W.contents writer.new)) }
 {
-    let written = match write_picture(map, options, overlay, writer) {
-        Ok(()) => writer.flush().is_ok(),
-        Err(_) => false,
-    };
-    if written {
-        Ok(DONE)
-    } else {
-        Err(Refusal::Lines(EditorError::WriterFailed))
+    match write_picture(alloc, map, options, overlay, writer) {
+        Ok(()) => {}
+        Err(PictureError::OutOfMemory) => return Err(Refusal::Lines(EditorError::OutOfMemory)),
+        Err(PictureError::WriterFailed) => return Err(Refusal::Lines(EditorError::WriterFailed)),
+    }
+    match writer.flush() {
+        Ok(()) => Ok(DONE),
+        Err(_) => Err(Refusal::Lines(EditorError::WriterFailed)),
     }
 }
 
@@ -178,11 +181,9 @@ where
     ensures drawn { IsDrawn wanted.entry.layers map.now.tables overlay.now
         (is_some wanted.entry.out) result (W.contents writer.old) (W.contents writer.new) }
 {
-    let options = PictureOptions {
-        numbers: wanted.layers.numbers,
-    };
+    let options = wanted.layers.options;
     match wanted.out {
-        None => show(map, options, overlay, writer),
+        None => show(alloc, map, options, overlay, writer),
         Some(path) => match draw_into(alloc, rt, path, map, options, overlay, why) {
             Ok(_) => Ok(DONE),
             Err(refusal) => Err(refusal),

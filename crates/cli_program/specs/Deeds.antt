@@ -95,9 +95,10 @@ IsPerformed facts (Dump file names exact) how reader-old reader-new writer-old w
     IsDoneWithSome (Dump file names exact) how writer-old writer-new × Keeps reader-old reader-new
 IsPerformed facts (Salvage file) how reader-old reader-new writer-old writer-new =
     IsSalvagedInto how writer-old writer-new × Keeps reader-old reader-new
-IsPerformed facts (Picture file map out numbers nodes lint) how reader-old reader-new writer-old
-    writer-new =
-    IsDoneWithSome (Picture file map out numbers nodes lint) how writer-old writer-new
+IsPerformed facts (Picture file map out numbers nodes lint heights grid crop) how reader-old
+    reader-new writer-old writer-new =
+    IsDoneWithSome (Picture file map out numbers nodes lint heights grid crop) how writer-old
+    writer-new
     × Keeps reader-old reader-new
 IsPerformed facts (Inspect wad name) how reader-old reader-new writer-old writer-new =
     IsExamined (string_bytes name) how writer-old writer-new × Keeps reader-old reader-new

@@ -8,7 +8,7 @@ abbrev pub is_over_source : Request → Bool
 is_over_source (Check file map) = true
 is_over_source (Lint file map iwad only except) = true
 is_over_source (Dump file names exact) = true
-is_over_source (Picture file map out numbers nodes lint) = true
+is_over_source (Picture file map out numbers nodes lint heights grid crop) = true
 is_over_source (Build file out) = true
 is_over_source request = false
 
@@ -34,7 +34,7 @@ IsQuiet (Draw file script verbose) status = status ≡ 0
 IsQuiet (TryScript script over verbose) status = status ≡ 0
 IsQuiet (Check file map) status = status ≡ 0
 IsQuiet (Lint file map iwad only except) status = status ≡ 0
-IsQuiet (Picture file map out numbers nodes lint) status = status ≡ 0
+IsQuiet (Picture file map out numbers nodes lint heights grid crop) status = status ≡ 0
 IsQuiet (Build file out) status = status ≡ 0
 IsQuiet (Dump file names exact) status = ⊥
 IsQuiet (Salvage file) status = ⊥

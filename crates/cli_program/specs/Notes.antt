@@ -15,9 +15,9 @@ TellsNotes (Lint file map iwad only except) how writer-old writer-new errors-old
     IsDoneWith (Lint file map iwad only except) how writer-old writer-new errors-old errors-new
 TellsNotes (Dump file names exact) how writer-old writer-new errors-old errors-new =
     IsDoneWith (Dump file names exact) how writer-old writer-new errors-old errors-new
-TellsNotes (Picture file map out numbers nodes lint) how writer-old writer-new errors-old
-    errors-new =
-    IsDoneWith (Picture file map out numbers nodes lint) how writer-old writer-new
+TellsNotes (Picture file map out numbers nodes lint heights grid crop) how writer-old writer-new
+    errors-old errors-new =
+    IsDoneWith (Picture file map out numbers nodes lint heights grid crop) how writer-old writer-new
     errors-old errors-new
 TellsNotes (Build file out) how writer-old writer-new errors-old errors-new =
     IsDoneWith (Build file out) how writer-old writer-new errors-old errors-new

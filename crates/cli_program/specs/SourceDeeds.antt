@@ -6,6 +6,7 @@ use Rattle.cli_dump.specs.Dumping.{IsDumpedIn}
 use Rattle.cli_dump.specs.LevelDumps.{IsWadDumped}
 use Rattle.cli_print.specs.Checking.{IsCheckedIn}
 use Rattle.cli_print.specs.Choosing.{ChosenWords}
+use Rattle.cli_print.specs.LaidOver.{layers_of}
 use Rattle.cli_print.specs.LevelLines.{IsWadChecked, IsWadLintedBy}
 use Rattle.cli_print.specs.LevelPicture.{IsLevelPicturedOf}
 use Rattle.cli_print.specs.Linting.{IsLintedBy}
@@ -76,9 +77,9 @@ IsDoneWith (Lint file map-name iwad only except) how writer-old writer-new
 IsDoneWith (Dump file names exact) how writer-old writer-new faults-old faults-new =
     IsDumpedAt (string_bytes file) (map string_bytes names.items) exact how writer-old writer-new
     faults-old faults-new
-IsDoneWith (Picture file map out numbers nodes lint) how writer-old writer-new
+IsDoneWith (Picture file map out numbers nodes lint heights grid crop) how writer-old writer-new
     faults-old faults-new =
-    IsPicturedAt (string_bytes file) (record { numbers = numbers; nodes = nodes; lint = lint })
+    IsPicturedAt (string_bytes file) (layers_of numbers heights grid crop nodes lint)
     (option_map string_bytes map) (is_some out) how writer-old writer-new faults-old faults-new
 IsDoneWith (Build file out) how writer-old writer-new faults-old faults-new =
     IsBuiltAt (string_bytes file) how writer-old writer-new faults-old faults-new

@@ -155,8 +155,7 @@ where
             only,
             except,
         } => {
-            let map = map.as_deref();
-            let iwad = iwad.as_deref();
+            let (map, iwad) = (map.as_deref(), iwad.as_deref());
             let choice = Choice { only, except };
             lint_file(rt, file.as_str(), map, iwad, choice, writer, faults, why)
         }
@@ -170,12 +169,13 @@ where
             numbers,
             nodes,
             lint,
+            heights,
+            grid,
+            crop,
         } => {
-            let wanted = Wanted {
-                map: map.as_deref(),
-                layers: layers_of(*numbers, *nodes, *lint),
-                out: out.as_deref(),
-            };
+            let layers = layers_of(*numbers, *heights, *grid, *crop, *nodes, *lint);
+            let (map, out) = (map.as_deref(), out.as_deref());
+            let wanted = Wanted { map, layers, out };
             picture_file(rt, file.as_str(), wanted, writer, faults, why)
         }
         Request::Build { file, out } => {

@@ -20,9 +20,10 @@ use Rattle.clap.specs.declared.parser.matches.Found.{Found}
 use Rattle.clap.proofs.WalkLemmas.{one_text-rows}
 use Rattle.cli_words.specs.App.{leveled_app}
 use Rattle.cli_words.specs.Request.{HasMoreThanFile, HasNumber, IsSubcommand, LacksNumber, LacksValue, RefusesRead, RefusesValues}
+use Rattle.cli_words.specs.Boxes.{HasNoBox}
 use Rattle.cli_words.specs.RuleWords.{HasUnknownWord}
 use Rattle.cli_words.specs.declared.asked.RequestError.{RequestError}
-use Rattle.cli_words.specs.declared.asked.RequestError.TheVariants.{Words, Codes, Number, WholeAlone, NotARule, Memory}
+use Rattle.cli_words.specs.declared.asked.RequestError.TheVariants.{Words, Codes, Number, WholeAlone, NotARule, NotABox, Memory}
 
 pub is_simple-leveled : is_simple leveled_app ≡ true
 unfolding clap_on_literals
@@ -151,6 +152,7 @@ refuses words name rows Codes is never = absurd never
 refuses words name rows Number is lacks = asks (subcommand_of leveled_app words) name rows LacksValue is lacks
 refuses words name rows WholeAlone is has = asks (subcommand_of leveled_app words) name rows HasMoreThanFile is has
 refuses words name rows (NotARule word) is has = asks (subcommand_of leveled_app words) name rows (HasUnknownWord (string_bytes word)) is has
+refuses words name rows (NotABox text) is has = asks (subcommand_of leveled_app words) name rows (HasNoBox (string_bytes text)) is has
 refuses words name rows Memory is told = tt
 
 -- ---- The values

@@ -9,7 +9,7 @@ use Rattle.clap.specs.Words.{Text}
 use Rattle.cli_words.specs.Help.{AsksForCodes, IsRefusal, without_help}
 use Rattle.cli_words.specs.Request.{RefusesRead}
 use Rattle.cli_words.specs.declared.asked.RequestError.{RequestError}
-use Rattle.cli_words.specs.declared.asked.RequestError.TheVariants.{Words, Codes, Number, WholeAlone, NotARule, Memory}
+use Rattle.cli_words.specs.declared.asked.RequestError.TheVariants.{Words, Codes, Number, WholeAlone, NotARule, NotABox, Memory}
 
 -- the two words of a list of two
 pub two : {X : Type 0} (f : X → Text) (xs : List X) (d : X) → length xs ≡ 2 → f (get_or xs 0 d) ∷ f (get_or xs 1 d) ∷ [] ≡ map f xs
@@ -40,6 +40,7 @@ refused_as words reads (Words e) same other is = (other, subst (λ (ws : List Te
 refused_as words reads Number same other is = (other, subst (λ (ws : List Text). RefusesRead ws Number) same is)
 refused_as words reads WholeAlone same other is = (other, subst (λ (ws : List Text). RefusesRead ws WholeAlone) same is)
 refused_as words reads (NotARule w) same other is = (other, subst (λ (ws : List Text). RefusesRead ws (NotARule w)) same is)
+refused_as words reads (NotABox w) same other is = (other, subst (λ (ws : List Text). RefusesRead ws (NotABox w)) same is)
 refused_as words reads Memory same other is = (other, tt)
 
 -- ---- Two words behind the program's name

@@ -101,16 +101,19 @@ dump_app =
     (flag_rule (codes "exact")))
     (flag_rule (codes "salvage"))
 
--- `picture FILE [MAP] [--out OUT] [--numbers] [--nodes] [--lint]`
+-- `picture FILE [MAP] [--out OUT] [--numbers] [--nodes] [--lint] [--heights] [--grid] [--crop BOX]`
 abbrev pub picture_app : App
 picture_app =
-    with_rule (with_rule (with_rule (with_rule (with_rule
+    with_rule (with_rule (with_rule (with_rule (with_rule (with_rule (with_rule (with_rule
     (with_one_word (codes "picture") (codes "file"))
     (last_rule (codes "map")))
     (path_rule (codes "out")))
     (flag_rule (codes "numbers")))
     (flag_rule (codes "nodes")))
-    (flag_rule (codes "lint"))
+    (flag_rule (codes "lint")))
+    (flag_rule (codes "heights")))
+    (flag_rule (codes "grid")))
+    (path_rule (codes "crop"))
 
 -- `inspect WAD [NAME]`
 abbrev pub inspect_app : App

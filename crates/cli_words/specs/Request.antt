@@ -7,10 +7,11 @@ use Rattle.clap.specs.Words.{HasKind, fault_of, first_of, Row, Text, one_of, sub
 use Rattle.clap.specs.Values.{kind_of}
 use Rattle.clap.specs.declared.error.kind.ErrorKind.TheVariants.{OutOfMemory}
 use Rattle.cli_words.specs.App.{leveled_app}
+use Rattle.cli_words.specs.Boxes.{HasNoBox, IsCropAsked}
 use Rattle.cli_words.specs.RuleWords.{HasUnknownWord, all_given, unknown_given}
 use Rattle.cli_words.specs.declared.asked.Request.{Request}
 use Rattle.cli_words.specs.declared.asked.RequestError.{RequestError}
-use Rattle.cli_words.specs.declared.asked.RequestError.TheVariants.{Words, Codes, Number, WholeAlone, NotARule, Memory}
+use Rattle.cli_words.specs.declared.asked.RequestError.TheVariants.{Words, Codes, Number, WholeAlone, NotARule, NotABox, Memory}
 use Rattle.cli_words.specs.declared.asked.Request.TheVariants.{Scratch, Create, Edit, Check, Lint, Draw, TryScript, Dump, Salvage, Picture, Inspect, Levels, Build, Rebuild}
 
 -- the argument's text is this number in decimal digits, and it is within the limits
@@ -69,13 +70,16 @@ AsksFor (Salvage file) asked = (asked.0 ≡ codes "dump")
     × (first_of (codes "file") asked.1 ≡ Some (string_bytes file))
     × (all_given (codes "name") asked.1 ≡ [])
     × (is_given (codes "exact") asked.1 ≡ false)
-AsksFor (Picture file map out numbers nodes lint) asked = (asked.0 ≡ codes "picture")
+AsksFor (Picture file map out numbers nodes lint heights grid crop) asked = (asked.0 ≡ codes "picture")
     × (first_of (codes "file") asked.1 ≡ Some (string_bytes file))
     × (first_of (codes "map") asked.1 ≡ option_map string_bytes map)
     × (first_of (codes "out") asked.1 ≡ option_map string_bytes out)
     × (numbers ≡ is_given (codes "numbers") asked.1)
     × (nodes ≡ is_given (codes "nodes") asked.1)
     × (lint ≡ is_given (codes "lint") asked.1)
+    × (heights ≡ is_given (codes "heights") asked.1)
+    × (grid ≡ is_given (codes "grid") asked.1)
+    × IsCropAsked (first_of (codes "crop") asked.1) crop
 AsksFor (Build file out) asked = (asked.0 ≡ codes "build")
     × (first_of (codes "file") asked.1 ≡ Some (string_bytes file))
     × (first_of (codes "out") asked.1 ≡ Some (string_bytes out))
@@ -116,6 +120,7 @@ RefusesText id rows (Words error) = ⊥
 RefusesText id rows Codes = ⊥
 RefusesText id rows WholeAlone = ⊥
 RefusesText id rows (NotARule word) = ⊥
+RefusesText id rows (NotABox text) = ⊥
 RefusesText id rows Number = first_of id rows ≡ None
 RefusesText id rows Memory = Unit {0}
 
@@ -143,6 +148,7 @@ RefusesValues asked Codes = ⊥
 RefusesValues asked Number = LacksValue asked
 RefusesValues asked WholeAlone = HasMoreThanFile asked
 RefusesValues asked (NotARule word) = HasUnknownWord (string_bytes word) asked
+RefusesValues asked (NotABox text) = HasNoBox (string_bytes text) asked
 RefusesValues asked Memory = Unit {0}
 
 -- Why the arguments are refused. clap's error is a fault that it names for these arguments, and for
@@ -157,4 +163,6 @@ RefusesRead words Number = IsSomeAnd (subcommand_of leveled_app words) LacksValu
 RefusesRead words WholeAlone = IsSomeAnd (subcommand_of leveled_app words) HasMoreThanFile
 RefusesRead words (NotARule word) =
     IsSomeAnd (subcommand_of leveled_app words) (HasUnknownWord (string_bytes word))
+RefusesRead words (NotABox text) =
+    IsSomeAnd (subcommand_of leveled_app words) (HasNoBox (string_bytes text))
 RefusesRead words Memory = Unit {0}

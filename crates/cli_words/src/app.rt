@@ -153,7 +153,10 @@ fn picture<'a>(alloc: Global) -> Result<Command<'a>, AllocError>
         .arg(path(alloc, "out", "OUT"))?
         .arg(flag(alloc, "numbers"))?
         .arg(flag(alloc, "nodes"))?
-        .arg(flag(alloc, "lint"))
+        .arg(flag(alloc, "lint"))?
+        .arg(flag(alloc, "heights"))?
+        .arg(flag(alloc, "grid"))?
+        .arg(path(alloc, "crop", "X1,Y1,X2,Y2"))
 }
 
 // `build`.

@@ -1,4 +1,5 @@
 //! What the program's arguments ask for, or why they are no request.
+use lump_records::Bounds;
 use thiserror::Error;
 
 /// What the program is asked to do. Each file is the path that was given.
@@ -57,8 +58,9 @@ pub enum Request {
         file: String,
     },
     /// Draw a map of a project or a level of a WAD as a picture: the one with this name, or else the current map or the
-    /// first level. Write it to the file `out`, or to standard output. Add the numbers of items, the tree, and marks
-    /// for what `lint` prints, each if asked for.
+    /// first level. Write it to the file `out`, or to standard output. Add the numbers of items, the tree, marks for
+    /// what `lint` prints, the heights of floors, and a grid, each if asked for. Show only the box `crop` if there is
+    /// one; it isn't empty, and its left and lower edges come before the right and upper ones.
     Picture {
         file: String,
         map: Option<String>,
@@ -66,6 +68,9 @@ pub enum Request {
         numbers: bool,
         nodes: bool,
         lint: bool,
+        heights: bool,
+        grid: bool,
+        crop: Option<Bounds>,
     },
     /// Build the maps of a project into a PWAD.
     Build {
@@ -108,6 +113,9 @@ pub enum RequestError {
     /// `lint` is given a word that no rule has.
     #[error("no rule has the word {0}")]
     NotARule(String),
+    /// `picture` is given a text that writes no box, or an empty one.
+    #[error("no box X1,Y1,X2,Y2 of whole numbers of 16 bits, or an empty one: {0}")]
+    NotABox(String),
     /// There is no memory for a text of the request.
     #[error("out of memory")]
     Memory,

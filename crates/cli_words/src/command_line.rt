@@ -8,6 +8,7 @@ ghost use Rattle.cli_words.specs.Request.{AsksFor, HasNumber, IsSubcommand, Lack
 use crate::app::leveled;
 use crate::asked::{Request, RequestError};
 use crate::lint_words::asked_lint;
+use crate::picture_words::asked_picture;
 use clap::ArgMatches;
 use std::alloc::Global;
 
@@ -123,8 +124,8 @@ fn asked_check(alloc: Global, found: &ArgMatches<'_>) -> Result<Request, Request
     }
 }
 
-// Whether a flag is given.
-fn is_given(found: &ArgMatches<'_>, id: &str) -> bool
+/// Whether a flag is given.
+pub(crate) fn is_given(found: &ArgMatches<'_>, id: &str) -> bool
     ensures { result ≡ is_given id.now (rows_of (found_of found.now)) }
 {
     match found.get_str(id) {
@@ -249,32 +250,6 @@ fn asked_rebuild(alloc: Global, found: &ArgMatches<'_>) -> Result<Request, Reque
     }
 }
 
-// The request to draw a map as a picture.
-fn asked_picture(alloc: Global, found: &ArgMatches<'_>) -> Result<Request, RequestError>
-    ensures asked { IfOk result (λ r. AsksFor r (codes "picture", rows_of (found_of found.now))) }
-    ensures refused { IfErr result (RefusesValues (codes "picture", rows_of (found_of found.now))) }
-{
-    let file = match text(alloc, found, "file") {
-        Ok(file) => file,
-        Err(error) => return Err(error),
-    };
-    let map = match last_text(alloc, found, "map") {
-        Ok(map) => map,
-        Err(error) => return Err(error),
-    };
-    match last_text(alloc, found, "out") {
-        Ok(out) => Ok(Request::Picture {
-            file,
-            map,
-            out,
-            numbers: is_given(found, "numbers"),
-            nodes: is_given(found, "nodes"),
-            lint: is_given(found, "lint"),
-        }),
-        Err(error) => Err(error),
-    }
-}
-
 // The request to inspect a level, or, without a name, to list the levels.
 fn asked_inspect(alloc: Global, found: &ArgMatches<'_>) -> Result<Request, RequestError>
     ensures asked { IfOk result (λ r. AsksFor r (codes "inspect", rows_of (found_of found.now))) }
@@ -366,7 +341,7 @@ fn read_two(alloc: Global, program: &str, word: &str, name: &str) -> Result<Requ
 /// `Words` if clap refuses the arguments, or answers them itself with help or the version; clap's error has the text,
 /// its stream and the status. `Codes` for `help codes`. `Number` if clap accepted an argument without a value within
 /// its limits. `WholeAlone` if `dump --salvage` has a name or `--exact`. `NotARule` if `lint` is given a word that no
-/// rule has. `Memory` if there is none.
+/// rule has. `NotABox` if `picture` is given a text that writes no box, or an empty one. `Memory` if there is none.
 pub fn request(alloc: Global, words: &[&str]) -> Result<Request, RequestError>
     ensures asked { IfOk result (λ r. IsSomeAnd
         (subcommand_of leveled_app (without_help (map (λ w. w.now) words.now))) (AsksFor r)) }

@@ -122,8 +122,12 @@ The picture goes to standard output, or to OUT, which may be a new path, an empt
 a picture that this program made. --numbers adds the numbers of vertices, lines and
 sectors. --nodes adds the partitions and subsectors that `build` makes of the map; for a
 level of a WAD, those that the WAD has. --lint adds a red mark for each line that `lint`
-prints: point at a mark to read its text. `leveled: 18 NoSuchMap` means that FILE has no
-map MAP, `leveled: 72 NoSuchLevel` that the WAD has no level MAP. FILE isn't changed.";
+prints: point at a mark to read its text. --heights fills each closed sector in a colour
+by its floor's height, with a legend; point at a sector to read its fields. --grid draws
+lines at the multiples of 64, and a bar of 256 units. With --crop=X1,Y1,X2,Y2 the page
+shows only that box; X1,Y1 and X2,Y2 are two opposite corners.
+`leveled: 18 NoSuchMap` means that FILE has no map MAP, `leveled: 72 NoSuchLevel` that the
+WAD has no level MAP. FILE isn't changed.";
 
 /// `build`.
 pub const BUILD: &str = "\

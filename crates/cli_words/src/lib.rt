@@ -6,6 +6,7 @@ mod asked;
 mod command_line;
 mod help;
 mod lint_words;
+mod picture_words;
 mod rule_words;
 
 pub use asked::{Request, RequestError};

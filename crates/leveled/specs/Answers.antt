@@ -10,7 +10,7 @@ use Rattle.cli_words.specs.Help.{IsRefusal, without_help}
 use Rattle.cli_words.specs.Request.{AsksFor}
 use Rattle.cli_words.specs.declared.asked.Request.{Request}
 use Rattle.cli_words.specs.declared.asked.RequestError.{RequestError}
-use Rattle.cli_words.specs.declared.asked.RequestError.TheVariants.{Words, Codes, Number, WholeAlone, NotARule, Memory}
+use Rattle.cli_words.specs.declared.asked.RequestError.TheVariants.{Words, Codes, Number, WholeAlone, NotARule, NotABox, Memory}
 use Rattle.cli_refusals.specs.Statuses.{status_in}
 use Rattle.cli_refusals.specs.declared.refusal.Refusal.{Refusal}
 use Rattle.cli_program.specs.Deeds.{IsPerformed}
@@ -36,6 +36,7 @@ EndsWords Codes status = status ≤ 1
 EndsWords Number status = status ≡ 2
 EndsWords WholeAlone status = status ≡ 2
 EndsWords (NotARule word) status = status ≡ 2
+EndsWords (NotABox text) status = status ≡ 2
 EndsWords Memory status = status ≡ 2
 
 -- the status is that of the request, which was done or refused; of standard input, output and error

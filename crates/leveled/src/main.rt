@@ -123,6 +123,15 @@ fn complain_of_rule(rt: &HostRuntime, error: &RequestError) {
     let _ = write_shown_lines(told.as_bytes(), &mut rt.stderr());
 }
 
+// Reports a text that writes no box. It may have any bytes.
+fn complain_of_box(rt: &HostRuntime, error: &RequestError) {
+    let Ok(told) = format!(in rt.alloc(); "leveled: {error}") else {
+        complain_of_memory(rt);
+        return;
+    };
+    let _ = write_shown_lines(told.as_bytes(), &mut rt.stderr());
+}
+
 // Prints the words by which `lint` chooses rules, a line each.
 fn print_rule_words(rt: &HostRuntime) {
     for word in RULE_WORDS {
@@ -145,6 +154,10 @@ fn refuse(rt: &HostRuntime, error: &RequestError) -> u8
         RequestError::NotARule(_) => {
             complain_of_rule(rt, error);
             print_rule_words(rt);
+            NO_REQUEST
+        }
+        RequestError::NotABox(_) => {
+            complain_of_box(rt, error);
             NO_REQUEST
         }
         RequestError::Number | RequestError::WholeAlone => {

@@ -1,8 +1,12 @@
+pub mod Fills
+pub mod Floors
 pub mod Groups
 pub mod Items
+pub mod Legend
 pub mod Lines
 pub mod Numbers
 pub mod Picture
+pub mod Sheet
 pub mod Style
 pub mod Things
 pub mod Vertices

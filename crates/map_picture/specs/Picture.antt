@@ -1,6 +1,7 @@
 -- The whole picture.
-use Rattle.std.specs.Prelude.{ℕ, Bool, true, false, List, [], ◌∷◌, ◌++◌, flat_map, codes, decimal}
+use Rattle.std.specs.Prelude.{◌≡◌, ℕ, Bool, true, false, Option, List, [], ◌∷◌, ◌++◌, flat_map, codes, decimal}
 use Rattle.std.specs.Fmt.{signed_decimal}
+use Rattle.std.specs.Io.KnownBytes.{Keeps}
 use Rattle.std.specs.List.{range_with_len}
 use Rattle.lump_records.specs.Names.{name_text}
 use Rattle.lump_records.specs.declared.records.Name8.{Name8}
@@ -14,10 +15,13 @@ use Rattle.map_svg.specs.declared.overlay.Overlay.{Overlay}
 use Rattle.map_svg.specs.declared.places.Spot.{Spot}
 use Rattle.map_picture.specs.declared.parts.Part.{Part}
 use Rattle.map_picture.specs.declared.parts.Part.TheVariants.{Lines, Things, Vertices, VertexNumbers, LineNumbers, SectorNumbers}
-use Rattle.map_picture.specs.declared.picture.PictureOptions.{PictureOptions}
+use Rattle.map_picture.specs.declared.options.PictureError.{PictureError}
+use Rattle.map_picture.specs.declared.options.PictureError.TheVariants.{OutOfMemory, WriterFailed}
+use Rattle.map_picture.specs.declared.options.PictureOptions.{PictureOptions}
 use Rattle.map_picture.specs.declared.view.View.{View}
 use Rattle.map_picture.specs.Lines.{line_text}
 use Rattle.map_picture.specs.Numbers.{line_number, sector_number, vertex_number}
+use Rattle.map_picture.specs.Sheet.{closing_text, sheet_of, under_text}
 use Rattle.map_picture.specs.Style.{style_text}
 use Rattle.map_picture.specs.Things.{thing_text}
 use Rattle.map_picture.specs.Vertices.{vertex_text}
@@ -85,9 +89,21 @@ part_text m step part =
 abbrev pub page_corner : View → Spot
 page_corner v = record { x = v.left; y = v.top }
 
--- the picture of a map with its overlay
+-- the map: its parts and the overlay
+unfoldable pub map_text : Bool → Tables → View → Overlay → List ℕ
+map_text numbers m v o =
+    flat_map (part_text m v.step) (picture_parts numbers) ++ overlay_text v.step (page_corner v) o
+
+-- the picture of a map with its overlay, on a sheet
 abbrev pub picture_of : PictureOptions → Tables → Overlay → List ℕ
 picture_of options m o =
-    let view = view_of m in
-    head_text view m.name ++ flat_map (part_text m view.step) (picture_parts options.numbers)
-    ++ overlay_text view.step (page_corner view) o ++ codes "</svg>\n"
+    let view = view_of options.crop m in
+    head_text (sheet_of options view) m.name ++ under_text options m view
+    ++ map_text options.numbers m view o ++ closing_text options
+
+-- why there is no picture: no memory for the findings of the map, with nothing written; or the writer failed
+abbrev pub IsNotPictured : PictureOptions → Option (List ℕ) → Option (List ℕ) → PictureError
+    → Type 0
+IsNotPictured options writer-old writer-new OutOfMemory =
+    (options.heights ≡ true) × Keeps writer-old writer-new
+IsNotPictured options writer-old writer-new WriterFailed = Unit {0}

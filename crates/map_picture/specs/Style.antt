@@ -89,3 +89,29 @@ unfoldable pub style_text : List ℕ
 style_text =
     codes "<style type=\"text/css\">\n" ++ rule_lines style_rules ++ rule_lines phone_rules
     ++ rule_lines dark_rules ++ codes "</style>\n"
+
+-- the rules of the legend, the scale, the grid and the filled sectors
+abbrev pub sheet_rules : List (List ℕ)
+sheet_rules =
+    codes ".grid{stroke:#94a3b8;stroke-opacity:.35;stroke-linecap:butt;vector-effect:none}"
+    ∷ codes ".grid{stroke-width:65536px;stroke-dasharray:2 62;stroke-dashoffset:1}"
+    ∷ codes "[class^=floor]{fill-opacity:.55}"
+    ∷ codes ".floor0{fill:#2c5aa0}"
+    ∷ codes ".floor1{fill:#4a86c5}"
+    ∷ codes ".floor2{fill:#7db4dd}"
+    ∷ codes ".floor3{fill:#b5d8e8}"
+    ∷ codes ".floor4{fill:#f3dc8a}"
+    ∷ codes ".floor5{fill:#f2b357}"
+    ∷ codes ".floor6{fill:#e07b39}"
+    ∷ codes ".floor7{fill:#bf3b2b}"
+    ∷ codes ".bar{fill:#222}"
+    ∷ codes "svg #legend text{font-size:1em;text-anchor:start;stroke:none;fill:#222}"
+    ∷ codes "@media (prefers-color-scheme:dark){"
+    ∷ codes ".bar{fill:#eee}"
+    ∷ codes "svg #legend text{fill:#eee}"
+    ∷ codes "}" ∷ []
+
+-- the element of their style
+unfoldable pub sheet_style : List ℕ
+sheet_style =
+    codes "<style type=\"text/css\">\n" ++ rule_lines sheet_rules ++ codes "</style>\n"

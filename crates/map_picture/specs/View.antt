@@ -1,5 +1,6 @@
 -- The part of the plane that the picture shows: all vertices and things, and a margin of 64.
 use Rattle.std.specs.Prelude.{ℕ, ◌+◌, ◌/◌, max, fold, Option, Some, None, ℤ, pos, neg_ℤ, ◌-ℤ◌, unsigned_abs}
+use Rattle.std.specs.Int.{int_max, int_min}
 use Rattle.lump_records.specs.declared.records.Bounds.{Bounds}
 use Rattle.lump_records.specs.declared.records.Vertex.{Vertex}
 use Rattle.lump_records.specs.declared.records.Thing.{Thing}
@@ -37,19 +38,21 @@ picture_box m = fold grown_by (box_of_vertices m) m.things
 abbrev pub picture_side : ℤ → ℤ → ℕ
 picture_side low high = unsigned_abs (high -ℤ low) + 128
 
--- the length of the ticks: a 96th of the longer side, rounded down, and at least 8
-abbrev pub step_of : Bounds → ℕ
-step_of b = max (max (picture_side b.left b.right) (picture_side b.bottom b.top) / 96) 8
+-- the length of the ticks on a page of this size: a 96th of the longer side, rounded down, and at least 8
+abbrev pub step_of : ℕ → ℕ → ℕ
+step_of width height = max (max width height / 96) 8
 
 -- the view of a box
 abbrev pub view_of_box : Bounds → View
 view_of_box b =
+    let width = picture_side b.left b.right in
+    let height = picture_side b.bottom b.top in
     record {
       left = b.left -ℤ pos 64;
       top = neg_ℤ b.top -ℤ pos 64;
-      width = picture_side b.left b.right;
-      height = picture_side b.bottom b.top;
-      step = step_of b;
+      width = width;
+      height = height;
+      step = step_of width height;
     }
 
 -- the view of a box, or of the box round (0,0) if there is none
@@ -57,6 +60,28 @@ abbrev pub view_round : Option Bounds → View
 view_round (Some b) = view_of_box b
 view_round None = view_of_box (box_at (record { x = pos 0; y = pos 0 }))
 
--- what the picture of a map shows
-abbrev pub view_of : Tables → View
-view_of m = view_round (picture_box m)
+-- what the picture of the whole map shows
+abbrev pub whole_view : Tables → View
+whole_view m = view_round (picture_box m)
+
+-- the distance between two coordinates
+abbrev pub distance : ℤ → ℤ → ℕ
+distance a b = unsigned_abs (b -ℤ a)
+
+-- the view of a box without a margin; its edges may be in any order
+abbrev pub view_within : Bounds → View
+view_within b =
+    let width = distance b.left b.right in
+    let height = distance b.bottom b.top in
+    record {
+      left = int_min b.left b.right;
+      top = neg_ℤ (int_max b.top b.bottom);
+      width = width;
+      height = height;
+      step = step_of width height;
+    }
+
+-- what the picture shows: the box that is asked for, or the whole map
+abbrev pub view_of : Option Bounds → Tables → View
+view_of (Some b) m = view_within b
+view_of None m = whole_view m

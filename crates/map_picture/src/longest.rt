@@ -1,6 +1,6 @@
 //! The longest line of each of several sectors, found in one pass over the lines.
 ghost use Rattle.std.specs.Prelude.{◌≡◌, ◌<◌, ℕ, length, slice_index_or};
-ghost use Rattle.map_picture.specs.Numbers.{bounds, longer, squared_len};
+ghost use Rattle.map_picture.specs.Numbers.{bounds, longer, longest_line, squared_len};
 ghost use Rattle.map_picture.specs.Longest.{AreLongest, LooksAt, LooksFor};
 
 use crate::items::sector_of;
@@ -86,4 +86,13 @@ pub(crate) fn find_longest(longest: &mut [Option<Line>], map: &Map, first: u32)
             None => {}
         }
     }
+}
+
+/// The longest line that has the sector on a side; of several, the first one.
+pub fn longest_line(map: &Map, sector: u32) -> Option<Line>
+    ensures { result ≡ longest_line map.now.tables sector }
+{
+    let mut longest = [None; 1];
+    find_longest(&mut longest, map, sector);
+    longest[0]
 }

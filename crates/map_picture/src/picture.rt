@@ -1,28 +1,26 @@
 //! The call that writes a picture.
-ghost use Rattle.std.specs.Prelude.{◌≡◌, ◌≢◌, ◌≤◌, OnOk, flat_map};
+ghost use Rattle.std.specs.Prelude.{◌≡◌, ◌≢◌, ◌≤◌, IfErr, IfOk, OnOk, flat_map, true};
 ghost use Rattle.std.specs.Io.KnownBytes.{Appends};
-ghost use Rattle.map_picture.specs.Picture.{element, head_text, opening_text, page_text, paper_text, page_corner, part_text, picture_of, map_title};
+ghost use Rattle.map_checks.specs.Findings.{findings};
+ghost use Rattle.map_picture.specs.Picture.{IsNotPictured, element, head_text, opening_text, map_text, map_title, page_corner, page_text, paper_text, part_text, picture_of};
 ghost use Rattle.map_picture.specs.Style.{style_text};
 
 use crate::lines::write_line;
 use crate::numbers::{write_line_number, write_sector_numbers, write_vertex_number};
+use crate::options::{PictureError, PictureOptions};
 use crate::parts::{Part, kind_of, parts_of};
+use crate::sheet::{sheet_of, write_closing, write_under};
 use crate::style::STYLE;
 use crate::things::write_thing;
 use crate::vertices::write_vertex;
 use crate::view::{View, view_of};
 use lump_records::Name8;
 use lump_text::WriterFailed;
+use map_checks::{CheckError, Finding, check};
 use map_svg::{Overlay, Spot, write_bytes, write_overlay};
 use map_tables::Map;
+use std::alloc::Global;
 use std::io::Write;
-
-/// The options of a picture.
-#[derive(Clone, Copy, Debug, PartialEq, Eq)]
-pub struct PictureOptions {
-    /// Whether the numbers of vertices, lines and sectors are shown beside them.
-    pub numbers: bool,
-}
 
 // Writes the beginning of the picture, with the part of the plane that it shows.
 fn write_opening<W: Write>(view: &View, writer: &mut W) -> Result<(), WriterFailed>
@@ -200,25 +198,81 @@ fn page_corner(view: &View) -> Spot
     }
 }
 
-/// Writes the map as an SVG 1.1 picture: a title and a style, then an element for each line, each thing and each
-/// vertex, the numbers if the options ask for them, and the overlay. It allocates no memory. If the writer is a
-/// file, put a buffer round it.
-///
-/// # Errors
-///
-/// `WriterFailed` (38): any part of the picture may have been written.
-pub fn write_picture<W: Write>(
+// Writes the map: its parts and the overlay.
+#[tactic(auto, unfolding(crate::specs::Picture::map_text))]
+fn write_map<W: Write>(
     map: &Map,
+    numbers: bool,
+    view: &View,
+    overlay: &Overlay,
+    writer: &mut W,
+) -> Result<(), WriterFailed>
+    requires { view.now.step ≤ 1000 }
+    ensures { OnOk result (Appends (W.contents writer.old) (W.contents writer.new)
+        (map_text numbers map.now.tables view.now overlay.now)) }
+{
+    write_parts(map, view.step, parts_of(numbers), writer)?;
+    write_overlay(overlay, view.step, page_corner(view), writer)
+}
+
+// Writes the picture, with the findings of the map.
+fn write_found<W: Write>(
+    map: &Map,
+    found: &[Finding],
     options: PictureOptions,
     overlay: &Overlay,
     writer: &mut W,
 ) -> Result<(), WriterFailed>
+    requires { options.heights ≡ true → found.now ≡ findings map.now.tables }
     ensures { OnOk result (Appends (W.contents writer.old) (W.contents writer.new)
         (picture_of options map.now.tables overlay.now)) }
 {
-    let view = view_of(map);
-    write_head(map.name(), &view, writer)?;
-    write_parts(map, view.step, parts_of(options.numbers), writer)?;
-    write_overlay(overlay, view.step, page_corner(&view), writer)?;
-    write_bytes(b"</svg>\n", writer)
+    let view = view_of(map, options.crop);
+    write_head(map.name(), &sheet_of(options, view), writer)?;
+    write_under(map, options, found, &view, writer)?;
+    write_map(map, options.numbers, &view, overlay, writer)?;
+    write_closing(options, writer)
+}
+
+// The findings of the map, if its closed sectors are filled.
+fn found_of(alloc: Global, map: &Map, heights: bool) -> Result<Vec<Finding>, CheckError>
+    ensures found { IfOk result (λ found. heights ≡ true
+        → found.items ≡ findings map.now.tables) }
+    ensures memory { IfErr result (λ _. heights ≡ true) }
+{
+    if heights {
+        check(alloc, map)
+    } else {
+        Ok(Vec::new(alloc))
+    }
+}
+
+/// Writes the map as an SVG 1.1 picture: a title and a style, then an element for each line, each thing and each
+/// vertex, the numbers if the options ask for them, and the overlay. Under the lines are the grid and the closed
+/// sectors, and beside them a scale and a legend, each if the options ask for it. Only for `heights` it allocates
+/// memory. If the writer is a file, put a buffer round it.
+///
+/// # Errors
+///
+/// `OutOfMemory`: nothing was written; only with `heights`. `WriterFailed`: any part of the picture may have been
+/// written.
+pub fn write_picture<W: Write>(
+    alloc: Global,
+    map: &Map,
+    options: PictureOptions,
+    overlay: &Overlay,
+    writer: &mut W,
+) -> Result<(), PictureError>
+    ensures written { OnOk result (Appends (W.contents writer.old) (W.contents writer.new)
+        (picture_of options map.now.tables overlay.now)) }
+    ensures refused { IfErr result (IsNotPictured options
+        (W.contents writer.old) (W.contents writer.new)) }
+{
+    let Ok(found) = found_of(alloc, map, options.heights) else {
+        return Err(PictureError::OutOfMemory);
+    };
+    match write_found(map, &found, options, overlay, writer) {
+        Ok(()) => Ok(()),
+        Err(_) => Err(PictureError::WriterFailed),
+    }
 }

@@ -71,3 +71,25 @@ text{stroke:#111}
 }
 </style>
 ";
+
+/// How the legend, the scale, the grid and the filled sectors look, in a light and in a dark scheme.
+pub const SHEET_STYLE: &str = "<style type=\"text/css\">
+.grid{stroke:#94a3b8;stroke-opacity:.35;stroke-linecap:butt;vector-effect:none}
+.grid{stroke-width:65536px;stroke-dasharray:2 62;stroke-dashoffset:1}
+[class^=floor]{fill-opacity:.55}
+.floor0{fill:#2c5aa0}
+.floor1{fill:#4a86c5}
+.floor2{fill:#7db4dd}
+.floor3{fill:#b5d8e8}
+.floor4{fill:#f3dc8a}
+.floor5{fill:#f2b357}
+.floor6{fill:#e07b39}
+.floor7{fill:#bf3b2b}
+.bar{fill:#222}
+svg #legend text{font-size:1em;text-anchor:start;stroke:none;fill:#222}
+@media (prefers-color-scheme:dark){
+.bar{fill:#eee}
+svg #legend text{fill:#eee}
+}
+</style>
+";

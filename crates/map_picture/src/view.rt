@@ -1,7 +1,8 @@
 //! The part of the plane that the picture shows.
 ghost use Rattle.std.specs.Prelude.{◌≡◌, ◌≤◌, ◌-ℤ◌, pos, neg_ℤ, slice_get};
+ghost use Rattle.std.specs.Int.{int_max, int_min};
 ghost use Rattle.std.specs.Option.{option_map_or};
-ghost use Rattle.map_picture.specs.View.{box_at, picture_box, box_of_vertices, box_with, grown, grown_by, picture_side, step_of, view_of, view_of_box};
+ghost use Rattle.map_picture.specs.View.{box_at, picture_box, box_of_vertices, box_with, grown, distance, grown_by, picture_side, step_of, view_of, view_of_box, whole_view, view_within};
 
 use lump_records::{Bounds, Vertex};
 use map_svg::box_round;
@@ -110,36 +111,104 @@ fn top_of(bounds: Bounds) -> i32
     -i32::from(bounds.top) - 64
 }
 
-// The length of the ticks.
-fn step_of(bounds: Bounds) -> u32
-    ensures step { result ≡ step_of bounds }
+// The length of the ticks on a page of this size.
+fn step_of(width: u32, height: u32) -> u32
+    requires width { width ≤ 65663 }
+    requires height { height ≤ 65663 }
+    ensures step { result ≡ step_of width height }
     ensures bound { result ≤ 1000 }
 {
-    let longer = side_of(bounds.left, bounds.right).max(side_of(bounds.bottom, bounds.top));
-    (longer / 96).max(8)
+    (width.max(height) / 96).max(8)
 }
 
 // The view of a box.
 fn view_of_box(bounds: Bounds) -> View
     ensures view { result ≡ view_of_box bounds }
+    ensures width { result.width ≤ 65663 }
     ensures bound { result.step ≤ 1000 }
 {
+    let (width, height) = (
+        side_of(bounds.left, bounds.right),
+        side_of(bounds.bottom, bounds.top),
+    );
     View {
         left: left_of(bounds),
         top: top_of(bounds),
-        width: side_of(bounds.left, bounds.right),
-        height: side_of(bounds.bottom, bounds.top),
-        step: step_of(bounds),
+        width,
+        height,
+        step: step_of(width, height),
     }
 }
 
-/// What the picture of the map shows.
-pub(crate) fn view_of(map: &Map) -> View
-    ensures view { result ≡ view_of map.now.tables }
+// The distance between two coordinates.
+fn distance(a: i16, b: i16) -> u32
+    ensures length { result ≡ distance a b }
+    ensures bound { result ≤ 65535 }
+{
+    (i32::from(b) - i32::from(a)).unsigned_abs()
+}
+
+// The left edge of a box whose edges may be in any order.
+fn left_within(bounds: Bounds) -> i32
+    ensures { result ≡ int_min bounds.left bounds.right }
+{
+    if bounds.right < bounds.left {
+        i32::from(bounds.right)
+    } else {
+        i32::from(bounds.left)
+    }
+}
+
+// The upper edge of such a box.
+fn top_within(bounds: Bounds) -> i32
+    ensures { result ≡ neg_ℤ (int_max bounds.top bounds.bottom) }
+{
+    if bounds.top < bounds.bottom {
+        -i32::from(bounds.bottom)
+    } else {
+        -i32::from(bounds.top)
+    }
+}
+
+// The view of a box without a margin. Its edges may be in any order.
+fn view_within(bounds: Bounds) -> View
+    ensures view { result ≡ view_within bounds }
+    ensures width { result.width ≤ 65663 }
+    ensures bound { result.step ≤ 1000 }
+{
+    let (width, height) = (
+        distance(bounds.left, bounds.right),
+        distance(bounds.bottom, bounds.top),
+    );
+    View {
+        left: left_within(bounds),
+        top: top_within(bounds),
+        width,
+        height,
+        step: step_of(width, height),
+    }
+}
+
+// What the picture of the whole map shows.
+fn whole_view(map: &Map) -> View
+    ensures view { result ≡ whole_view map.now.tables }
+    ensures width { result.width ≤ 65663 }
     ensures bound { result.step ≤ 1000 }
 {
     match box_of(map) {
         Some(bounds) => view_of_box(bounds),
         None => view_of_box(box_at(Vertex { x: 0, y: 0 })),
+    }
+}
+
+/// What the picture of the map shows: the box, or the whole map.
+pub(crate) fn view_of(map: &Map, crop: Option<Bounds>) -> View
+    ensures view { result ≡ view_of crop map.now.tables }
+    ensures width { result.width ≤ 65663 }
+    ensures bound { result.step ≤ 1000 }
+{
+    match crop {
+        Some(bounds) => view_within(bounds),
+        None => whole_view(map),
     }
 }

@@ -32,6 +32,8 @@ mod picture;
 #[cfg(test)]
 mod shapes;
 #[cfg(test)]
+mod sheet;
+#[cfg(test)]
 mod stops;
 #[cfg(test)]
 mod textures;

@@ -4,7 +4,7 @@ use crate::drawing::{ROOM, SECTOR, SIDE, drawn};
 use crate::expect::same;
 use lump_records::{Bounds, Node, Seg, Sub, Vertex};
 use lump_text::WriterFailed;
-use map_picture::{PictureOptions, STYLE, write_picture};
+use map_picture::{PictureError, PictureOptions, STYLE, write_picture};
 use map_svg::{Mark, MarkPlace, Overlay};
 use std::alloc::Global;
 use std::io;
@@ -185,6 +185,29 @@ fn tree_and_marks(alloc: Global) -> Result<Overlay, Fail> {
     Ok(overlay)
 }
 
+// Without anything but the map, or with numbers.
+fn plain(numbers: bool) -> PictureOptions {
+    PictureOptions {
+        numbers,
+        heights: false,
+        grid: false,
+        crop: None,
+    }
+}
+
+// The picture of what these lines draw, with these options and this overlay.
+fn pictured(
+    alloc: Global,
+    lines: &[&[u8]],
+    options: PictureOptions,
+    overlay: &Overlay,
+) -> Result<Vec<u8>, Fail> {
+    let maps = drawn(alloc, lines)?;
+    let mut text = Vec::new(alloc);
+    write_picture(alloc, maps.current(), options, overlay, &mut text)?;
+    Ok(text)
+}
+
 // The picture of what these lines draw, with this overlay.
 fn laid_over(
     alloc: Global,
@@ -192,15 +215,7 @@ fn laid_over(
     numbers: bool,
     overlay: &Overlay,
 ) -> Result<Vec<u8>, Fail> {
-    let maps = drawn(alloc, lines)?;
-    let mut text = Vec::new(alloc);
-    write_picture(
-        maps.current(),
-        PictureOptions { numbers },
-        overlay,
-        &mut text,
-    )?;
-    Ok(text)
+    pictured(alloc, lines, plain(numbers), overlay)
 }
 
 // The picture of what these lines draw.
@@ -277,9 +292,9 @@ impl Write for Full {
 fn tells_of_a_full_writer(rt: HostRuntime) -> Result<(), Fail> {
     let maps = drawn(rt.alloc(), &DRAWING)?;
     let overlay = nothing(rt.alloc());
-    let options = PictureOptions { numbers: false };
-    let told = write_picture(maps.current(), options, &overlay, &mut Full);
-    same(&rt, &told, &Err(WriterFailed));
+    let alloc = rt.alloc();
+    let told = write_picture(alloc, maps.current(), plain(false), &overlay, &mut Full);
+    same(&rt, &told, &Err(PictureError::WriterFailed));
     same(&rt, &WriterFailed.code(), &38);
     Ok(())
 }

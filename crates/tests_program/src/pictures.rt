@@ -2,6 +2,8 @@
 
 use crate::expect::same;
 use crate::inspection::performed;
+use cli_words::{Request, RequestError, request};
+use lump_records::Bounds;
 use map_picture::STYLE;
 use std::alloc::Global;
 use std::fs;
@@ -137,5 +139,63 @@ fn draws_maps_of_a_file(rt: HostRuntime) -> Result<(), Fail> {
     }
     let drawn = fs::read(&rt, "pictures.svg")?;
     same(&rt, &drawn, &picture(rt.alloc(), FRONT, BACK)?);
+    Ok(())
+}
+
+// Texts of `--crop`, and the upper, lower, left and right edge of the box that each writes.
+const BOXES: &[(&str, [i16; 4])] = &[
+    ("--crop=0,0,128,64", [64, 0, 0, 128]),
+    ("--crop=128,64,0,0", [64, 0, 0, 128]),
+    ("--crop=-64,+64,0,-64", [64, -64, -64, 0]),
+    (
+        "--crop=-32768,-32768,32767,32767",
+        [32767, -32768, -32768, 32767],
+    ),
+];
+
+// Texts that write none: too few or too many numbers, no number, one past 16 bits, and boxes without area.
+#[rattlefmt::skip]
+const NO_BOXES: &[&str] = &[
+    "0", "0,0,64", "0,0,64,64,", "0,0,64,64,64", "0,0,64,", "0,,64,64", "0, 0,64,64", "0 0 64 64", "0,0,x,64",
+    "0,0,64,32768", "0,-32769,64,64", "0,0,0,64", "0,64,64,64", "0,0,0,0",
+];
+
+// The edges of the box that the words ask for.
+fn asked_box(alloc: Global, words: &[&str]) -> Result<Option<Bounds>, Fail> {
+    match request(alloc, words) {
+        Ok(Request::Picture { crop, .. }) => Ok(crop),
+        _ => Err(Fail::from("no picture is asked for")),
+    }
+}
+
+// The text for which the words are refused, as one that writes no box.
+fn refused_box(alloc: Global, text: &str) -> Result<String, Fail> {
+    match request(alloc, &["leveled", "picture", "f", "--crop", text]) {
+        Err(RequestError::NotABox(text)) => Ok(text),
+        _ => Err(Fail::from("not refused as no box")),
+    }
+}
+
+#[test]
+fn reads_boxes(rt: HostRuntime) -> Result<(), Fail> {
+    for &(word, [top, bottom, left, right]) in BOXES {
+        let found = asked_box(rt.alloc(), &["leveled", "picture", "f", word])?;
+        let wanted = Bounds {
+            top,
+            bottom,
+            left,
+            right,
+        };
+        same(&rt, &(word, found), &(word, Some(wanted)));
+    }
+    same(
+        &rt,
+        &asked_box(rt.alloc(), &["leveled", "picture", "f"])?,
+        &None,
+    );
+    for &text in NO_BOXES {
+        let found = refused_box(rt.alloc(), text)?;
+        same(&rt, &found.as_str(), &text);
+    }
     Ok(())
 }

@@ -9,4 +9,4 @@ loop-warning-init c = sym (append-nil (map said_at c.args.marks.now.items))
 pub loop-warning-preserved : goal.loop-warning-preserved
 loop-warning-preserved c =
     c.in-Ok.ensures.added
-    ∙ marked_more warning_mark (map said_at c.args.marks.now.items) c.args.warned.now c.loop-warning.warning-index _ (omega (arith, c.loop-warning-test.true)) _ c.loop-warning.invariant
+    ∙ marked_more (warning_mark c.args.drawn.now.tables) (map said_at c.args.marks.now.items) c.args.warned.now c.loop-warning.warning-index _ (omega (arith, c.loop-warning-test.true)) _ c.loop-warning.invariant

@@ -1,0 +1,12 @@
+use Rattle.std.proofs.Common.{rules}
+use Rattle.std.proofs.lemmas.Int.{to_z-of_z}
+use Rattle.std.specs.Prelude.{FitsSigned}
+use Rattle.std.specs.Int.{w32}
+use Rattle.map_picture.specs.Legend.{last_text}
+use Rattle.map_picture.proofs.legend.write_last.Goals as goal
+
+pub returns : goal.returns
+unfolding last_text
+returns g c =
+    let f1 : FitsSigned w32 c.args.last = search rules in
+    rw (to_z-of_z w32 c.args.last f1) at c.in_ok-write.ensures.bytes
