@@ -53,7 +53,7 @@ pub performed_with : {D : Type 0} (facts : Ghosts D) (request : Request) (how : 
 performed_with facts (Check file map) how r u w d x done = ((d, x, done), Keeps-refl r)
 performed_with facts (Lint file map iwad only except) how r u w d x done = ((d, x, done), Keeps-refl r)
 performed_with facts (Dump file names exact) how r u w d x done = ((d, x, done), Keeps-refl r)
-performed_with facts (Picture file map out numbers nodes lint) how r u w d x done = ((d, x, done), Keeps-refl r)
+performed_with facts (Picture file map out numbers nodes lint heights grid crop) how r u w d x done = ((d, x, done), Keeps-refl r)
 performed_with facts (Build file out) how r u w d x done = ((d, x, done), Keeps-refl r)
 performed_with facts Scratch how r u w d x never = absurd never
 performed_with facts (Create file slot journal) how r u w d x never = absurd never
@@ -70,7 +70,7 @@ pub noted_with : (request : Request) (how : Result ℕ Refusal) (u w d x : Optio
 noted_with (Check file map) how u w d x done = done
 noted_with (Lint file map iwad only except) how u w d x done = done
 noted_with (Dump file names exact) how u w d x done = done
-noted_with (Picture file map out numbers nodes lint) how u w d x done = done
+noted_with (Picture file map out numbers nodes lint heights grid crop) how u w d x done = done
 noted_with (Build file out) how u w d x done = done
 noted_with Scratch how u w d x never = absurd never
 noted_with (Create file slot journal) how u w d x never = absurd never
@@ -100,7 +100,7 @@ pub quiet_with : (request : Request) (how : Result ℕ Refusal) (u w d x : Optio
     → Keeps d x
 quiet_with (Check file map) how u w d x done none = quiet_some _ how u w d x _ _ done (λ wad told. told.1) none
 quiet_with (Lint file map iwad only except) how u w d x done none = quiet_some _ how u w d x _ _ done (λ wad told. told.1) none
-quiet_with (Picture file map out numbers nodes lint) how u w d x done none = quiet_some _ how u w d x _ _ done (λ wad told. told.1) none
+quiet_with (Picture file map out numbers nodes lint heights grid crop) how u w d x done none = quiet_some _ how u w d x _ _ done (λ wad told. told.1) none
 quiet_with (Build file out) how u w d x done none = quiet_some _ how u w d x _ _ done (λ wad never. absurd never) none
 quiet_with (Dump file names exact) how u w d x done never = absurd never
 quiet_with Scratch how u w d x never none = absurd never

@@ -1,6 +1,6 @@
 -- What was done for a request (docs/COMMANDS.md, "The program"). How it ended is a status, or the
 -- refusal. A file tells no bytes, so which project, WAD or script it was is left open.
-use Rattle.std.specs.Prelude.{◌≡◌, ◌⊎◌, ℕ, Bool, Option, Result, Ok, Err, List, [], ◌∷◌, ◌++◌, codes, string_bytes, false, is_some, map, option_map}
+use Rattle.std.specs.Prelude.{◌≡◌, ◌⊎◌, ℕ, Bool, Option, None, Some, Result, Ok, Err, List, [], ◌∷◌, ◌++◌, codes, string_bytes, false, is_some, map, option_map}
 use Rattle.std.specs.Io.KnownBytes.{Appends, Keeps}
 use Rattle.store_disk.specs.declared.disk.Disk.{Ghosts}
 use Rattle.map_tables.specs.Projects.{ProjectMaps, empty_project}

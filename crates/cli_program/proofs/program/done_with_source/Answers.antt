@@ -19,7 +19,7 @@ returns-in-Dump-clause-done g c =
 
 pub returns-in-Picture-clause-done : goal.returns-in-Picture-clause-done
 returns-in-Picture-clause-done g c =
-    rw c.in-Picture.is (pictured_as _ _ _ _ _ _ _ _ _ _ _ _ _ c.as_str-in-Picture.ensures.value c.layers_of.ensures c.as_deref.ensures.value c.as_deref-in-Picture.ensures.variant c.picture_file.ensures.pictured)
+    rw c.in-Picture.is (pictured_as _ _ _ _ _ _ _ _ _ _ _ _ _ c.as_str-in-Picture.ensures.value c.layers_of-layers.ensures c.as_deref-map-in-Picture.ensures.value c.as_deref-out.ensures.variant c.picture_file.ensures.pictured)
 
 pub returns-in-Build-clause-done : goal.returns-in-Build-clause-done
 returns-in-Build-clause-done g c = rw c.in-Build.is (built_as _ _ _ _ _ _ _ c.as_str-in-Build.ensures.value c.build_file.ensures.built)
