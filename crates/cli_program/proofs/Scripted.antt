@@ -46,7 +46,7 @@ draft_same project m n d is same cap =
 
 -- a line that was told was refused
 pub held_back : (name text : List ℕ) (how : Result ℕ Refusal) (old : Drafted) (d x : Option (List ℕ)) → IsStoppedFrom old name text how d x → IsHeldBack old text how
-held_back name text (Ok status) old d x (is, told) = (is, (told.0, told.1.0, told.1.1.0, told.1.1.1.0))
+held_back name text (Ok status) old d x (is, told) = (is, (told.0, told.1, told.2, told.3))
 held_back name text (Err refusal) old d x is = is
 
 -- how it ended
