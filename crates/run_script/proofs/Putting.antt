@@ -46,7 +46,7 @@ module _ {D : Type 0} (facts : Ghosts D) where
 
   -- a group that was put in vain
   pub put_lost : (old new : Drawing D) (g : GroupState) (e : ProjectError) → old.group ≡ Some g → IsGroupFor old.project g × (old.project.must_reopen ≡ false)
-      → EndsPut facts (Err e) old.project new.project (project_of g.maps)
+      → EndsPut {T = Unit {0}} facts (Err e) old.project new.project (project_of g.maps)
       → (old.project.must_reopen ≡ false → LeavesOnly facts old.project.disk new.project.disk (StandsForEither old.project.cap (project_of old.project.maps) (project_of g.maps)))
       → IsProjectKept facts new.project → new.project.cap ≡ old.project.cap → new.group ≡ None → new.has_lost ≡ old.holds_earlier → Loses facts old new
   put_lost old new g e some ((staged, can), ready) (maps, refused) moment kept cap none lost =
