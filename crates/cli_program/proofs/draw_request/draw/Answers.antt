@@ -28,7 +28,7 @@ returns-clause-drawn g c =
         tried,
         whole,
         c.draw_onto-how.new.canvas,
-        c.into_disk.ensures.disk ∙ ap (λ (s : State _). s.disk) c.into_project-project.ensures,
+        c.into_disk-2.ensures.disk ∙ ap (λ (s : State _). s.disk) c.into_project-project.ensures,
         subst (λ (d : Drawing _). IsDrawnOnto (project_canvas g.D.Disk) c.args.script.is_verbose c.args.script.text.now c.draw_onto-how.result d c.draw_onto-how.new.canvas
             (g.W.Write.contents c.args.writer.now) (g.W.Write.contents c.draw_onto-how.new.writer)) c.new-canvas.ensures.first c.draw_onto-how.ensures.drawn,
       ),

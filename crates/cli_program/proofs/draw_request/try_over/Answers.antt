@@ -15,6 +15,6 @@ returns-clause-tried g c = rw c.into_disk.ensures.disk (
   inr (
     c.in-Ok.project,
     c.in-Ok.ensures.opened,
-    tried_same c.in-Ok.project c.maps.result.now c.cap.result _ _ _ _ _ c.maps.ensures c.cap.ensures.cap c.try_copy.ensures.tried,
+    tried_same c.in-Ok.project c.maps.result.now c.cap.result _ _ _ _ _ c.maps.ensures c.cap.ensures.cap c.try_copy-how.ensures.tried,
   ),
 )
