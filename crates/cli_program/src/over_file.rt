@@ -1,5 +1,5 @@
 //! The requests that make a project or change one, and `dump --salvage`, over the file at a path.
-ghost use Rattle.std.specs.Prelude.{◌≡◌, ◌≤◌, false, Ok, IfErr, IfOk, is_some};
+ghost use Rattle.std.specs.Prelude.{◌≡◌, ◌≤◌, ◌⊎◌, false, Ok, IfErr, IfOk, is_some};
 ghost use Rattle.std.specs.Io.KnownBytes.{Keeps};
 ghost use Rattle.cli_program.specs.DrawnInto.{IsDrawnInto, IsTriedOntoSome};
 ghost use Rattle.cli_program.specs.Salvaging.{IsSalvagedInto};
@@ -10,7 +10,9 @@ use crate::draw_request::{Script, draw, try_over};
 use crate::over_disk::{create, edit};
 use crate::salvage_request::salvage_lines;
 use crate::script_file::read_all;
-use cli_files::{Access, Cause, Content, GaplessFile, Hold, NotedFile, content_in, open_held};
+use cli_files::{
+    Access, Cause, Content, GaplessFile, Hold, NotedFile, ReadFile, content_in, open_held, open_to_read,
+};
 use cli_refusals::{Causes, Refusal};
 use run_edit::EditorError;
 use std::fs;
@@ -40,19 +42,40 @@ where
     }
 }
 
-// A request's file, held until it is dropped, which knows why its last call failed; or notes why it can't be opened.
+// The file that a request writes, held until it is dropped, which knows why its last call failed; or notes why it can't
+// be opened.
 fn file_at<E: Files>(
     rt: &E,
     path: &str,
-    access: Access,
     why: &mut Causes,
 ) -> Result<NotedFile<E::File>, Refusal>
 where
     E::File: Hold,
     ensures { IfErr result (λ r. r ≡ Refusal.Project ProjectError.Device) }
 {
-    let file = open_at(rt, path, access, why)?;
+    let file = open_at(rt, path, Access::Writes, why)?;
     Ok(NotedFile::new(file))
+}
+
+/// Opens a file that a request only reads, so that nobody changes meanwhile what it reads; or notes why it can't.
+pub fn open_read<E: AllocGlobal + Files>(
+    rt: &E,
+    path: &str,
+    why: &mut Causes,
+) -> Result<ReadFile<E::File>, Refusal>
+where
+    E::File: FileExt + Hold,
+    ensures { IfErr result (λ r. (r ≡ Refusal.Project ProjectError.Device)
+        ⊎ (r ≡ Refusal.Project ProjectError.OutOfMemory)) }
+{
+    match open_to_read(rt, path) {
+        Ok(file) => Ok(file),
+        Err(Cause::OutOfMemory) => Err(Refusal::Project(ProjectError::OutOfMemory)),
+        Err(cause) => {
+            why.file = Some(cause);
+            Err(Refusal::Project(ProjectError::Device))
+        }
+    }
 }
 
 // What a file holds that is no empty one.
@@ -134,7 +157,7 @@ where
         (R.remaining reader.old) (R.remaining reader.new)
         (W.contents writer.old) (W.contents writer.new) }
 {
-    let file = file_at(rt, path, Access::Writes, why)?;
+    let file = file_at(rt, path, why)?;
     let disk = FileDisk::new(&file, true);
     let how = edit(rt.alloc(), disk, reader, writer).how;
     ended_over(&file, how, why)
@@ -167,7 +190,7 @@ where
         Ok(text) => text,
         Err(refusal) => return Err(refusal),
     };
-    let file = match file_at(rt, path, Access::Writes, why) {
+    let file = match file_at(rt, path, why) {
         Ok(file) => file,
         Err(refusal) => return Err(refusal),
     };
@@ -243,8 +266,8 @@ where
         Ok(text) => text,
         Err(refusal) => return Err(refusal),
     };
-    let file = match file_at(rt, path, Access::Reads, why) {
-        Ok(file) => file,
+    let file = match open_read(rt, path, why) {
+        Ok(file) => NotedFile::new(file),
         Err(refusal) => return Err(refusal),
     };
     let disk = FileDisk::new(&file, false);
@@ -304,7 +327,7 @@ where
     ensures small { IfOk result (λ s. s ≤ 3) }
     ensures salvaged { IsSalvagedInto result (W.contents writer.old) (W.contents writer.new) }
 {
-    let file = file_at(rt, path, Access::Reads, why)?;
+    let file = NotedFile::new(open_read(rt, path, why)?);
     let disk = FileDisk::new(&file, false);
     let how = salvage_lines(rt.alloc(), disk, writer, faults).how;
     ended_over(&file, how, why)
