@@ -9,13 +9,11 @@ ghost use Rattle.cli_refusals.specs.declared.refusal.Refusal.{Refusal};
 use crate::draw_request::{Script, draw, try_over};
 use crate::over_disk::{create, edit};
 use crate::salvage_request::salvage_lines;
-use crate::script_file::read_all;
+use crate::script_file::{read_file, read_script_of};
 use cli_files::{
     Access, Cause, Content, GaplessFile, Hold, NotedFile, ReadFile, content_in, open_held, open_to_read,
 };
 use cli_refusals::{Causes, Refusal};
-use run_edit::EditorError;
-use std::fs;
 use std::io::{Read, Write};
 use std::os::unix::fs::FileExt;
 use std::rt::Files;
@@ -163,47 +161,6 @@ where
     ended_over(&file, how, why)
 }
 
-// Reads a script with this name to its end, and draws it onto the project in the file at the path.
-fn draw_read<E, R, W, F>(
-    rt: &E,
-    path: &str,
-    name: &str,
-    is_verbose: bool,
-    reader: &mut R,
-    writer: &mut W,
-    faults: &mut F,
-    why: &mut Causes,
-) -> Result<u8, Refusal>
-where
-    E: AllocGlobal + Files,
-    E::File: FileExt + Hold,
-    R: Read,
-    W: Write,
-    F: Write,
-    ensures small { IfOk result (λ s. s ≤ 3) }
-    ensures drawn { IsDrawnInto ⟦<FileDisk<&'static NotedFile<E::File>> as Disk>⟧
-        false is_verbose result (R.remaining reader.old) (R.remaining reader.new)
-        (W.contents writer.old) (W.contents writer.new) }
-    ensures quiet { result ≡ Ok 0 → Keeps (F.contents faults.old) (F.contents faults.new) }
-{
-    let text = match read_all(rt.alloc(), reader, &mut why.beside) {
-        Ok(text) => text,
-        Err(refusal) => return Err(refusal),
-    };
-    let file = match file_at(rt, path, why) {
-        Ok(file) => file,
-        Err(refusal) => return Err(refusal),
-    };
-    let disk = FileDisk::new(&file, true);
-    let script = Script {
-        name,
-        text: &text,
-        is_verbose,
-    };
-    let how = draw(rt.alloc(), disk, script, writer, faults).how;
-    ended_over(&file, how, why)
-}
-
 /// Draws a script onto the project in the file at the path. The script is the file at `script`, or the input, whose
 /// name in the report of a refused line is `-`; or notes why the script can't be opened or read.
 pub fn draw_file<E, R, W, F>(
@@ -228,55 +185,21 @@ where
         (W.contents writer.old) (W.contents writer.new) }
     ensures quiet { result ≡ Ok 0 → Keeps (F.contents faults.old) (F.contents faults.new) }
 {
-    let Some(name) = script else {
-        return draw_read(rt, path, "-", is_verbose, reader, writer, faults, why);
-    };
-    match fs::open(rt, name) {
-        Ok(mut file) => draw_read(rt, path, name, is_verbose, &mut file, writer, faults, why),
-        Err(error) => {
-            why.beside = Some(Cause::System(error));
-            Err(Refusal::Lines(EditorError::ReaderFailed))
-        }
-    }
-}
-
-// Reads a script with this name to its end, and tries it over the maps of the project in the file at the path.
-fn try_read<E, R, W, F>(
-    rt: &E,
-    path: &str,
-    name: &str,
-    is_verbose: bool,
-    reader: &mut R,
-    writer: &mut W,
-    faults: &mut F,
-    why: &mut Causes,
-) -> Result<u8, Refusal>
-where
-    E: AllocGlobal + Files,
-    E::File: FileExt + Hold,
-    R: Read,
-    W: Write,
-    F: Write,
-    ensures small { IfOk result (λ s. s ≤ 3) }
-    ensures tried { IsTriedOntoSome is_verbose result
-        (W.contents writer.old) (W.contents writer.new) }
-    ensures quiet { result ≡ Ok 0 → Keeps (F.contents faults.old) (F.contents faults.new) }
-{
-    let text = match read_all(rt.alloc(), reader, &mut why.beside) {
+    let text = match read_script_of(rt, script, reader, &mut why.beside) {
         Ok(text) => text,
         Err(refusal) => return Err(refusal),
     };
-    let file = match open_read(rt, path, why) {
-        Ok(file) => NotedFile::new(file),
+    let file = match file_at(rt, path, why) {
+        Ok(file) => file,
         Err(refusal) => return Err(refusal),
     };
-    let disk = FileDisk::new(&file, false);
+    let disk = FileDisk::new(&file, true);
     let script = Script {
-        name,
+        name: script.unwrap_or("-"),
         text: &text,
         is_verbose,
     };
-    let how = try_over(rt.alloc(), disk, script, writer, faults).how;
+    let how = draw(rt.alloc(), disk, script, writer, faults).how;
     ended_over(&file, how, why)
 }
 
@@ -301,13 +224,22 @@ where
         (W.contents writer.old) (W.contents writer.new) }
     ensures quiet { result ≡ Ok 0 → Keeps (F.contents faults.old) (F.contents faults.new) }
 {
-    match fs::open(rt, script) {
-        Ok(mut file) => try_read(rt, path, script, is_verbose, &mut file, writer, faults, why),
-        Err(error) => {
-            why.beside = Some(Cause::System(error));
-            Err(Refusal::Lines(EditorError::ReaderFailed))
-        }
-    }
+    let text = match read_file(rt, script, &mut why.beside) {
+        Ok(text) => text,
+        Err(refusal) => return Err(refusal),
+    };
+    let file = match open_read(rt, path, why) {
+        Ok(file) => NotedFile::new(file),
+        Err(refusal) => return Err(refusal),
+    };
+    let disk = FileDisk::new(&file, false);
+    let script = Script {
+        name: script,
+        text: &text,
+        is_verbose,
+    };
+    let how = try_over(rt.alloc(), disk, script, writer, faults).how;
+    ended_over(&file, how, why)
 }
 
 /// Writes the lines that draw the maps again which can be read from the project in the file at the path, damaged or
