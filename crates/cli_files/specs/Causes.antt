@@ -47,6 +47,11 @@ IsOfHolding Held = Unit {0}
 IsOfHolding NotRegular = Unit {0}
 IsOfHolding _ = ⊥
 
+-- why a file can't be opened, locked or copied, to read it
+abbrev pub IsOfReading : Cause → Type 0
+IsOfReading OutOfMemory = Unit {0}
+IsOfReading cause = IsOfHolding cause
+
 -- why a new file can't be opened, or the one in its place not be replaced by one of the form, if one
 -- is given
 abbrev pub IsOfOpeningNew : Option Form → Cause → Type 0

@@ -6,4 +6,5 @@ pub mod Locks
 pub mod Names
 pub mod NewFile
 pub mod NotedFile
+pub mod ReadFile
 pub mod Replaced

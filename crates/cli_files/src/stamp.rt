@@ -1,6 +1,7 @@
 //! Which file stands at a path, to tell later whether it has been changed or replaced.
-ghost use Rattle.std.specs.Prelude.{IfErr};
+ghost use Rattle.std.specs.Prelude.{◌≡◌, ◌≢◌, IfErr, IfOk};
 ghost use Rattle.cli_files.specs.Causes.{IsOfPutting};
+ghost use Rattle.cli_files.specs.declared.cause.Cause.TheVariants.{Changed};
 
 use crate::Cause;
 use std::fs::{Files, Metadata};
@@ -37,14 +38,21 @@ pub fn stamp_at<E: Files>(rt: &E, path: &str) -> io::Result<Option<Stamp>> {
     }
 }
 
-/// Refuses a path at which another file stands than the one with this stamp, or the same one changed.
-pub fn check_unchanged<E: Files>(rt: &E, path: &str, was: Option<Stamp>) -> Result<(), Cause>
-    ensures { IfErr result IsOfPutting }
+// Refuses another file than the one with this stamp, or the same one changed.
+fn check_same(now: Option<Stamp>, was: Option<Stamp>) -> Result<(), Cause>
+    ensures same { IfOk result (λ _. now ≡ was) }
+    ensures other { IfErr result (λ cause. (cause ≡ Changed) × (now ≢ was)) }
 {
-    let now = stamp_at(rt, path)?;
     if now == was {
         Ok(())
     } else {
         Err(Cause::Changed)
     }
+}
+
+/// Refuses a path at which another file stands than the one with this stamp, or the same one changed.
+pub fn check_unchanged<E: Files>(rt: &E, path: &str, was: Option<Stamp>) -> Result<(), Cause>
+    ensures { IfErr result IsOfPutting }
+{
+    check_same(stamp_at(rt, path)?, was)
 }

@@ -1,6 +1,7 @@
 -- The marks of a picture for what there is to say of a map (docs/COMMANDS.md, "The program").
-use Rattle.std.specs.Prelude.{ℕ, List, ◌++◌, map, pos, slice_get, string_bytes}
+use Rattle.std.specs.Prelude.{ℕ, List, Option, ◌++◌, map, pos, slice_get, string_bytes}
 use Rattle.std.specs.Option.{option_map_or, unwrap_or}
+use Rattle.lump_records.specs.declared.records.Line.{Line}
 use Rattle.lump_records.specs.declared.records.Vertex.{Vertex}
 use Rattle.map_tables.specs.Tables.{Tables}
 use Rattle.map_checks.specs.Findings.{findings}
@@ -32,28 +33,24 @@ mark_at_vertex m n = option_map_or At (slice_get m.vertices n) Corner
 abbrev pub line_end : Tables → ℕ → Vertex
 line_end m n = unwrap_or (slice_get m.vertices n) (record { x = pos 0; y = pos 0 })
 
--- along line n
-abbrev pub mark_along_line : Tables → ℕ → MarkPlace
-mark_along_line m n =
-    option_map_or (λ l. Along (line_end m l.v1) (line_end m l.v2)) (slice_get m.lines n) Corner
+-- along a line, if there is one
+abbrev pub mark_along : Tables → Option Line → MarkPlace
+mark_along m found =
+    option_map_or (λ l. Along (line_end m l.v1) (line_end m l.v2)) found Corner
 
 -- where to look for what a finding tells of: what has no place is in the page's corner
 abbrev pub finding_place : Tables → Finding → MarkPlace
 finding_place m (VertexUnused n) = mark_at_vertex m n
-finding_place m (TextureMissing line left texture) = mark_along_line m line
+finding_place m (TextureMissing line left texture) = mark_along m (slice_get m.lines line)
 finding_place m (SectorOpen sector vertex) = mark_at_vertex m vertex
 finding_place m (SideUnused n) = Corner
 finding_place m (SectorUnused n) = Corner
 finding_place m NoPlayerStart = Corner
 
--- along the longest of the sector's lines
-abbrev pub mark_along_longest : Tables → ℕ → MarkPlace
-mark_along_longest m n =
-    option_map_or (λ l. Along (line_end m l.v1) (line_end m l.v2)) (longest_line m n) Corner
-
--- where to look for a sector that is inside out; another warning without a place is in the corner
+-- where to look for a sector that is inside out, along the longest of its lines; another warning
+-- without a place is in the corner
 abbrev pub place_by_rule : Tables → Rule → ℕ → MarkPlace
-place_by_rule m SectorInside n = mark_along_longest m n
+place_by_rule m SectorInside n = mark_along m (longest_line m n)
 place_by_rule m _ n = Corner
 
 -- where to look for what a warning tells of

@@ -2,10 +2,10 @@
 ghost use Rattle.std.specs.Prelude.{◌≡◌, ◌++◌, ◌∷◌, [], List, ℕ, IfErr, IfOk, Some, map};
 ghost use Rattle.map_checks.specs.Texts.{finding_text};
 ghost use Rattle.map_lint.specs.Texts.{warning_text};
-ghost use Rattle.cli_print.specs.Marking.{line_end, finding_mark, finding_place, mark_along_line, mark_along_longest, mark_at_vertex, marks_of, place_by_rule, said_at, warning_mark, warning_place};
+ghost use Rattle.cli_print.specs.Marking.{line_end, finding_mark, finding_place, mark_along, mark_at_vertex, marks_of, place_by_rule, said_at, warning_mark, warning_place};
 ghost use Rattle.run_edit.specs.declared.error.EditorError.TheVariants.{OutOfMemory};
 
-use lump_records::Vertex;
+use lump_records::{Line, Vertex};
 use map_checks::{Finding, check};
 use map_lint::{Rule, Warning, Whereabouts};
 use map_picture::longest_line;
@@ -32,11 +32,11 @@ fn line_end(drawn: &Map, n: u16) -> Vertex
     drawn.vertex(u32::from(n)).unwrap_or(Vertex { x: 0, y: 0 })
 }
 
-// The whole line with the number, from end to end.
-fn mark_along_line(drawn: &Map, n: u32) -> MarkPlace
-    ensures { result ≡ mark_along_line drawn.now.tables n }
+// A whole line, from end to end, if there is one.
+fn mark_along(drawn: &Map, found: Option<Line>) -> MarkPlace
+    ensures { result ≡ mark_along drawn.now.tables found }
 {
-    match drawn.line(n) {
+    match found {
         Some(line) => MarkPlace::Along(line_end(drawn, line.v1), line_end(drawn, line.v2)),
         None => MarkPlace::Corner,
     }
@@ -48,21 +48,11 @@ fn finding_place(drawn: &Map, finding: Finding) -> MarkPlace
 {
     match finding {
         Finding::VertexUnused(n) => mark_at_vertex(drawn, n),
-        Finding::TextureMissing { line, .. } => mark_along_line(drawn, line),
+        Finding::TextureMissing { line, .. } => mark_along(drawn, drawn.line(line)),
         Finding::SectorOpen { vertex, .. } => mark_at_vertex(drawn, vertex),
         Finding::SideUnused(_) => MarkPlace::Corner,
         Finding::SectorUnused(_) => MarkPlace::Corner,
         Finding::NoPlayerStart => MarkPlace::Corner,
-    }
-}
-
-// The longest line of the sector with the number, from end to end.
-fn mark_along_longest(drawn: &Map, n: u32) -> MarkPlace
-    ensures { result ≡ mark_along_longest drawn.now.tables n }
-{
-    match longest_line(drawn, n) {
-        Some(line) => MarkPlace::Along(line_end(drawn, line.v1), line_end(drawn, line.v2)),
-        None => MarkPlace::Corner,
     }
 }
 
@@ -71,7 +61,7 @@ fn place_by_rule(drawn: &Map, rule: Rule, n: u32) -> MarkPlace
     ensures { result ≡ place_by_rule drawn.now.tables rule n }
 {
     match rule {
-        Rule::SectorInside => mark_along_longest(drawn, n),
+        Rule::SectorInside => mark_along(drawn, longest_line(drawn, n)),
         _ => MarkPlace::Corner,
     }
 }

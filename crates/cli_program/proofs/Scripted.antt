@@ -52,9 +52,9 @@ held_back name text (Err refusal) old d x is = is
 -- how it ended
 pub rehearsed : (name text : List ℕ) (old first new : Drafted) (d x : Option (List ℕ)) (result : Option (Result ℕ Refusal)) → old ≡ first
     → MatchOption result (DrawsWhole text old new × Keeps d x) (λ how. IsStoppedFrom old name text how d x)
-    → MatchOption result (((tried : Drafted) × DrawsWhole text first tried) × Keeps d x) (λ how. IsHeldBack first text how)
+    → MatchOption result (((tried : Drafted) × DrawsWhole text first tried) × Keeps d x) (λ how. IsStoppedFrom first name text how d x)
 rehearsed name text old first new d x None same (drawn, kept) = ((new, subst (λ (q : Drafted). DrawsWhole text q new) same drawn), kept)
-rehearsed name text old first new d x (Some how) same stopped = subst (λ (q : Drafted). IsHeldBack q text how) same (held_back name text how old d x stopped)
+rehearsed name text old first new d x (Some how) same stopped = subst (λ (q : Drafted). IsStoppedFrom q name text how d x) same stopped
 
 -- a script that was tried over a copy of a project's maps
 pub tried_same : {D : Type 0} (project : State D) (m : MapsView) (n : ℕ) (verbose : Bool) (text : List ℕ) (how : Result ℕ Refusal) (u w : Option (List ℕ)) → m ≡ project.maps

@@ -10,13 +10,11 @@ use Rattle.run_script.specs.declared.drawing.Stop.{Stop}
 use Rattle.run_script.specs.declared.error.ScriptError.{ScriptError}
 use Rattle.run_script.specs.declared.error.ScriptError.TheVariants as cut
 use Rattle.cli_program.specs.Kinds.{IsQuiet}
-use Rattle.cli_program.proofs.Sources.{unread_of}
-use Rattle.std.proofs.KnownBytes.{Keeps-refl}
 use Rattle.std.specs.Prelude.{IfOk, slice_get}
 use Rattle.map_script.specs.Scripts.{script_lines}
 use Rattle.store_disk.specs.declared.disk.Disk.{Ghosts}
 use Rattle.cli_program.specs.Drawing.{IsHandedOn, ShowsStop, TellsRefused, TellsStopFrom}
-use Rattle.cli_program.specs.DrawnInto.{IsDrawnInto, IsReadTried, IsScriptTried}
+use Rattle.cli_program.specs.DrawnInto.{IsDrawnInto}
 
 apart : (n : ℕ) → n ≡ 3 → n ≡ 0 → ⊥
 apart n three none = omega arith
@@ -35,16 +33,6 @@ whole_end (Err cut.WriterFailed) how u w (inr failed) is = cc
 pub drawn_into_as : {D : Type 0} (facts : Ghosts D) (a b verbose : Bool) (how : Result ℕ Refusal) (u v w x : Option (List ℕ)) → a ≡ b
     → IsDrawnInto facts a verbose how u v w x → IsDrawnInto facts b verbose how u v w x
 drawn_into_as facts a b verbose how u v w x same drawn = subst (λ (t : Bool). IsDrawnInto facts t verbose how u v w x) same drawn
-
--- from a reader to a file, which tells no bytes
-pub drawn_of_file : {D : Type 0} (facts : Ghosts D) (verbose : Bool) (how : Result ℕ Refusal) (r s x u w : Option (List ℕ))
-    → IsDrawnInto facts false verbose how r s u w → IsDrawnInto facts true verbose how x x u w
-drawn_of_file facts verbose how r s x u w (inl unread) = inl (unread_of r s u w how unread)
-drawn_of_file facts verbose how r s x u w (inr (script, input, done)) = inr (script, Keeps-refl x, done)
-
-pub tried_of_file : (verbose : Bool) (how : Result ℕ Refusal) (r s u w : Option (List ℕ)) → IsReadTried verbose r s how u w → IsScriptTried verbose how u w
-tried_of_file verbose how r s u w (inl unread) = inl (unread_of r s u w how unread)
-tried_of_file verbose how r s u w (inr (script, input, done)) = inr (script, done)
 
 -- the line was told that was refused
 pub told_refused : {U : Type 0} (told : Result U ScriptError) (script : List ℕ) (lines : List (ℕ × List ℕ)) (drawn : Result (Option Stop) ScriptError) (field : Option Stop)

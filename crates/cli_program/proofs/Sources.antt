@@ -1,5 +1,6 @@
 -- From what was done over a disk, or of a reader, to what a file leaves open.
-use Rattle.std.proofs.Common.{◌≡◌, ◌⊎◌, inl, inr, ℕ, Bool, List, Option, Result, Ok, Err, IfErr, IfOk, refl, sym, subst}
+use Rattle.std.proofs.Common.{◌≡◌, ◌⊎◌, ap, inl, inr, ℕ, Bool, List, Option, Result, Ok, Err, IfErr, IfOk, refl, sym, subst}
+use Rattle.std.proofs.KnownBytes.{Keeps-refl}
 use Rattle.std.specs.Io.KnownBytes.{Appends, Keeps}
 use Rattle.std.specs.Prelude.{codes, ◌++◌, ◌∷◌, [], MatchResult, false}
 use Rattle.store_disk.specs.Moments.{LeavesOnly}
@@ -148,6 +149,13 @@ examined_some name (Err (Build e)) r s u w never = absurd never
 examined_some name (Err NoSuchMap) r s u w never = absurd never
 examined_some name (Err (NotAMap e)) r s u w never = absurd never
 examined_some name (Err TreeOutside) r s u w never = absurd never
+
+-- ---- A file that isn't opened
+
+-- a file couldn't be opened, or there was no memory to copy it
+pub unopened_of : (refusal : Refusal) (w : Option (List ℕ)) → (refusal ≡ Project Device) ⊎ (refusal ≡ Project OutOfMemory) → EndsUnopened (Err refusal) w w
+unopened_of refusal w (inl is) = (Device, ap Err is, tt, Keeps-refl w)
+unopened_of refusal w (inr is) = (OutOfMemory, ap Err is, tt, Keeps-refl w)
 
 -- ---- A WAD
 

@@ -79,16 +79,8 @@ IsDrawnInto facts from_file verbose how reader-old reader-new writer-old writer-
     × (EndsUnopened how writer-old writer-new
     ⊎ IsDrawnOntoSome facts verbose script how writer-old writer-new))
 
--- the script can't be read, or the lines of all that the reader gave were tried over the empty
+-- the script of a file, which tells no bytes, can't be read, or its lines were tried over the empty
 -- project
-abbrev pub IsReadTried : Bool → Option (List ℕ) → Option (List ℕ) → Result ℕ Refusal
-    → Option (List ℕ) → Option (List ℕ) → Type 0
-IsReadTried verbose reader-old reader-new how writer-old writer-new =
-    IsRefusedFor (IsUnreadOf reader-old reader-new) how writer-old writer-new
-    ⊎ ((script : List ℕ) × IsInput false script reader-old reader-new
-    × IsTriedOn verbose script how writer-old writer-new)
-
--- the same of a file, which tells no bytes
 abbrev pub IsScriptTried : Bool → Result ℕ Refusal → Option (List ℕ) → Option (List ℕ) → Type 0
 IsScriptTried verbose how writer-old writer-new =
     EndsUnread how writer-old writer-new

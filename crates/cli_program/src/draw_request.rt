@@ -1,7 +1,7 @@
 //! The request `draw`: the lines of a script, drawn onto a disk's project, or tried over maps in memory.
 ghost use Rattle.std.specs.Prelude.{◌≡◌, ◌≤◌, ◌<◌, ◌⊎◌, None, Ok, length, IfErr, IfOk, IfSome, MatchOption};
 ghost use Rattle.std.specs.Io.KnownBytes.{Keeps};
-ghost use Rattle.cli_program.specs.Drawing.{DrawsWhole, IsDrawnOnto, IsHandedOn, IsHeldBack, IsStopTold, IsTriedOn, IsTriedOver, ShowsStop, TellsRefused, TellsStopFrom, stop_status};
+ghost use Rattle.cli_program.specs.Drawing.{DrawsWhole, IsDrawnOnto, IsHandedOn, IsStopTold, IsTriedOn, IsTriedOver, ShowsStop, TellsRefused, TellsStopFrom, stop_status};
 ghost use Rattle.map_script.specs.Views.{seen};
 ghost use Rattle.map_tables.specs.Projects.{body_len, project_of};
 ghost use Rattle.run_script.specs.Canvases.{Drafted, NothingWaits, draft_over};
@@ -180,7 +180,8 @@ fn rehearse<D: Disk, F: Write>(
     ensures tried { MatchOption result
         (((tried : Drafted) × DrawsWhole script.entry.text.now (draft_over project.now) tried)
         × Keeps (F.contents faults.old) (F.contents faults.new))
-        (λ how. IsHeldBack (draft_over project.now) script.entry.text.now how) }
+        (λ how. IsStoppedFrom (draft_over project.now) script.entry.name.now
+        script.entry.text.now how (F.contents faults.old) (F.contents faults.new)) }
     ensures small { IfSome result (λ how. IfOk how (λ s. s ≤ 3)) }
 {
     let Ok(mut draft) = Draft::over(alloc, project.maps(), project.cap()) else {

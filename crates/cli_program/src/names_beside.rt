@@ -1,8 +1,8 @@
 //! The names that a file has, told where none of them was asked for.
 use crate::over_disk::maps_on;
-use crate::over_file::open_at;
+use crate::over_file::open_read;
 use crate::script_maps::draw_maps;
-use cli_files::{Access, Content, Hold, NotedFile, content_in};
+use cli_files::{Content, Hold, NotedFile, ReadFile, content_in};
 use cli_print::{TURNS, read_wad};
 use cli_refusals::Causes;
 use cli_words::Request;
@@ -65,7 +65,7 @@ fn names_in_script<R: io::Read>(alloc: Global, reader: &mut R) -> Option<Vec<Nam
 
 // The names of a project's maps.
 #[inline(never)]
-fn names_in_project<E>(rt: &E, file: E::File) -> Option<Vec<Name8>>
+fn names_in_project<E>(rt: &E, file: ReadFile<E::File>) -> Option<Vec<Name8>>
 where
     E: AllocGlobal + Files,
     E::File: FileExt,
@@ -89,10 +89,10 @@ where
         out: None,
         beside: None,
     };
-    let mut file = open_at(rt, path, Access::Reads, &mut why).ok()?;
+    let mut file = open_read(rt, path, &mut why).ok()?;
     match content_in(&file) {
-        Ok(Content::Wad) => names_in_wad(rt.alloc(), &mut file),
-        Ok(Content::Text | Content::Picture) => names_in_script(rt.alloc(), &mut file),
+        Ok(Content::Wad) => names_in_wad(rt.alloc(), &mut file.file),
+        Ok(Content::Text | Content::Picture) => names_in_script(rt.alloc(), &mut file.file),
         _ => names_in_project(rt, file),
     }
 }

@@ -1,5 +1,5 @@
 //! The requests that make a project or change one, and `dump --salvage`, over the file at a path.
-ghost use Rattle.std.specs.Prelude.{◌≡◌, ◌≤◌, false, Ok, IfErr, IfOk, is_some};
+ghost use Rattle.std.specs.Prelude.{◌≡◌, ◌≤◌, ◌⊎◌, false, Ok, IfErr, IfOk, is_some};
 ghost use Rattle.std.specs.Io.KnownBytes.{Keeps};
 ghost use Rattle.cli_program.specs.DrawnInto.{IsDrawnInto, IsTriedOntoSome};
 ghost use Rattle.cli_program.specs.Salvaging.{IsSalvagedInto};
@@ -9,11 +9,11 @@ ghost use Rattle.cli_refusals.specs.declared.refusal.Refusal.{Refusal};
 use crate::draw_request::{Script, draw, try_over};
 use crate::over_disk::{create, edit};
 use crate::salvage_request::salvage_lines;
-use crate::script_file::read_all;
-use cli_files::{Access, Cause, Content, GaplessFile, Hold, NotedFile, content_in, open_held};
+use crate::script_file::{read_file, read_script_of};
+use cli_files::{
+    Access, Cause, Content, GaplessFile, Hold, NotedFile, ReadFile, content_in, open_held, open_to_read,
+};
 use cli_refusals::{Causes, Refusal};
-use run_edit::EditorError;
-use std::fs;
 use std::io::{Read, Write};
 use std::os::unix::fs::FileExt;
 use std::rt::Files;
@@ -40,19 +40,40 @@ where
     }
 }
 
-// A request's file, held until it is dropped, which knows why its last call failed; or notes why it can't be opened.
+// The file that a request writes, held until it is dropped, which knows why its last call failed; or notes why it can't
+// be opened.
 fn file_at<E: Files>(
     rt: &E,
     path: &str,
-    access: Access,
     why: &mut Causes,
 ) -> Result<NotedFile<E::File>, Refusal>
 where
     E::File: Hold,
     ensures { IfErr result (λ r. r ≡ Refusal.Project ProjectError.Device) }
 {
-    let file = open_at(rt, path, access, why)?;
+    let file = open_at(rt, path, Access::Writes, why)?;
     Ok(NotedFile::new(file))
+}
+
+/// Opens a file that a request only reads, so that nobody changes meanwhile what it reads; or notes why it can't.
+pub fn open_read<E: AllocGlobal + Files>(
+    rt: &E,
+    path: &str,
+    why: &mut Causes,
+) -> Result<ReadFile<E::File>, Refusal>
+where
+    E::File: FileExt + Hold,
+    ensures { IfErr result (λ r. (r ≡ Refusal.Project ProjectError.Device)
+        ⊎ (r ≡ Refusal.Project ProjectError.OutOfMemory)) }
+{
+    match open_to_read(rt, path) {
+        Ok(file) => Ok(file),
+        Err(Cause::OutOfMemory) => Err(Refusal::Project(ProjectError::OutOfMemory)),
+        Err(cause) => {
+            why.file = Some(cause);
+            Err(Refusal::Project(ProjectError::Device))
+        }
+    }
 }
 
 // What a file holds that is no empty one.
@@ -134,50 +155,9 @@ where
         (R.remaining reader.old) (R.remaining reader.new)
         (W.contents writer.old) (W.contents writer.new) }
 {
-    let file = file_at(rt, path, Access::Writes, why)?;
+    let file = file_at(rt, path, why)?;
     let disk = FileDisk::new(&file, true);
     let how = edit(rt.alloc(), disk, reader, writer).how;
-    ended_over(&file, how, why)
-}
-
-// Reads a script with this name to its end, and draws it onto the project in the file at the path.
-fn draw_read<E, R, W, F>(
-    rt: &E,
-    path: &str,
-    name: &str,
-    is_verbose: bool,
-    reader: &mut R,
-    writer: &mut W,
-    faults: &mut F,
-    why: &mut Causes,
-) -> Result<u8, Refusal>
-where
-    E: AllocGlobal + Files,
-    E::File: FileExt + Hold,
-    R: Read,
-    W: Write,
-    F: Write,
-    ensures small { IfOk result (λ s. s ≤ 3) }
-    ensures drawn { IsDrawnInto ⟦<FileDisk<&'static NotedFile<E::File>> as Disk>⟧
-        false is_verbose result (R.remaining reader.old) (R.remaining reader.new)
-        (W.contents writer.old) (W.contents writer.new) }
-    ensures quiet { result ≡ Ok 0 → Keeps (F.contents faults.old) (F.contents faults.new) }
-{
-    let text = match read_all(rt.alloc(), reader, &mut why.beside) {
-        Ok(text) => text,
-        Err(refusal) => return Err(refusal),
-    };
-    let file = match file_at(rt, path, Access::Writes, why) {
-        Ok(file) => file,
-        Err(refusal) => return Err(refusal),
-    };
-    let disk = FileDisk::new(&file, true);
-    let script = Script {
-        name,
-        text: &text,
-        is_verbose,
-    };
-    let how = draw(rt.alloc(), disk, script, writer, faults).how;
     ended_over(&file, how, why)
 }
 
@@ -205,55 +185,21 @@ where
         (W.contents writer.old) (W.contents writer.new) }
     ensures quiet { result ≡ Ok 0 → Keeps (F.contents faults.old) (F.contents faults.new) }
 {
-    let Some(name) = script else {
-        return draw_read(rt, path, "-", is_verbose, reader, writer, faults, why);
-    };
-    match fs::open(rt, name) {
-        Ok(mut file) => draw_read(rt, path, name, is_verbose, &mut file, writer, faults, why),
-        Err(error) => {
-            why.beside = Some(Cause::System(error));
-            Err(Refusal::Lines(EditorError::ReaderFailed))
-        }
-    }
-}
-
-// Reads a script with this name to its end, and tries it over the maps of the project in the file at the path.
-fn try_read<E, R, W, F>(
-    rt: &E,
-    path: &str,
-    name: &str,
-    is_verbose: bool,
-    reader: &mut R,
-    writer: &mut W,
-    faults: &mut F,
-    why: &mut Causes,
-) -> Result<u8, Refusal>
-where
-    E: AllocGlobal + Files,
-    E::File: FileExt + Hold,
-    R: Read,
-    W: Write,
-    F: Write,
-    ensures small { IfOk result (λ s. s ≤ 3) }
-    ensures tried { IsTriedOntoSome is_verbose result
-        (W.contents writer.old) (W.contents writer.new) }
-    ensures quiet { result ≡ Ok 0 → Keeps (F.contents faults.old) (F.contents faults.new) }
-{
-    let text = match read_all(rt.alloc(), reader, &mut why.beside) {
+    let text = match read_script_of(rt, script, reader, &mut why.beside) {
         Ok(text) => text,
         Err(refusal) => return Err(refusal),
     };
-    let file = match file_at(rt, path, Access::Reads, why) {
+    let file = match file_at(rt, path, why) {
         Ok(file) => file,
         Err(refusal) => return Err(refusal),
     };
-    let disk = FileDisk::new(&file, false);
+    let disk = FileDisk::new(&file, true);
     let script = Script {
-        name,
+        name: script.unwrap_or("-"),
         text: &text,
         is_verbose,
     };
-    let how = try_over(rt.alloc(), disk, script, writer, faults).how;
+    let how = draw(rt.alloc(), disk, script, writer, faults).how;
     ended_over(&file, how, why)
 }
 
@@ -278,13 +224,22 @@ where
         (W.contents writer.old) (W.contents writer.new) }
     ensures quiet { result ≡ Ok 0 → Keeps (F.contents faults.old) (F.contents faults.new) }
 {
-    match fs::open(rt, script) {
-        Ok(mut file) => try_read(rt, path, script, is_verbose, &mut file, writer, faults, why),
-        Err(error) => {
-            why.beside = Some(Cause::System(error));
-            Err(Refusal::Lines(EditorError::ReaderFailed))
-        }
-    }
+    let text = match read_file(rt, script, &mut why.beside) {
+        Ok(text) => text,
+        Err(refusal) => return Err(refusal),
+    };
+    let file = match open_read(rt, path, why) {
+        Ok(file) => NotedFile::new(file),
+        Err(refusal) => return Err(refusal),
+    };
+    let disk = FileDisk::new(&file, false);
+    let script = Script {
+        name: script,
+        text: &text,
+        is_verbose,
+    };
+    let how = try_over(rt.alloc(), disk, script, writer, faults).how;
+    ended_over(&file, how, why)
 }
 
 /// Writes the lines that draw the maps again which can be read from the project in the file at the path, damaged or
@@ -304,7 +259,7 @@ where
     ensures small { IfOk result (λ s. s ≤ 3) }
     ensures salvaged { IsSalvagedInto result (W.contents writer.old) (W.contents writer.new) }
 {
-    let file = file_at(rt, path, Access::Reads, why)?;
+    let file = NotedFile::new(open_read(rt, path, why)?);
     let disk = FileDisk::new(&file, false);
     let how = salvage_lines(rt.alloc(), disk, writer, faults).how;
     ended_over(&file, how, why)

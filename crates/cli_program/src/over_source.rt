@@ -8,11 +8,11 @@ use crate::build_request::build;
 use crate::dump_request::{dump, dump_wad};
 use crate::lint_request::{lint, lint_wad};
 use crate::over_disk::check;
-use crate::over_file::{ended_over, open_at};
+use crate::over_file::{ended_over, open_read};
 use crate::over_script::{build_script, check_script, dump_script, lint_script, picture_script};
 use crate::over_wad::check_wad;
 use crate::picture_request::{picture, picture_wad};
-use cli_files::{Access, Content, Hold, NotedFile, content_in};
+use cli_files::{Content, Hold, NotedFile, content_in};
 use cli_print::{Choice, Wanted};
 use cli_refusals::{Causes, Refusal};
 use std::io::Write;
@@ -40,13 +40,13 @@ where
         (W.contents writer.old) (W.contents writer.new)
         (F.contents faults.old) (F.contents faults.new) }
 {
-    let mut file = open_at(rt, path, Access::Reads, why)?;
+    let mut file = open_read(rt, path, why)?;
     match content_in(&file) {
-        Ok(Content::Wad) => return check_wad(rt.alloc(), &mut file, name, writer, &mut why.file),
+        Ok(Content::Wad) => return check_wad(rt.alloc(), &mut file.file, name, writer, &mut why.file),
         Ok(Content::Text | Content::Picture) => return check_script(
             rt.alloc(),
             path,
-            &mut file,
+            &mut file.file,
             name,
             writer,
             faults,
@@ -83,11 +83,11 @@ where
         (W.contents writer.old) (W.contents writer.new)
         (F.contents faults.old) (F.contents faults.new) }
 {
-    let mut file = open_at(rt, path, Access::Reads, why)?;
+    let mut file = open_read(rt, path, why)?;
     match content_in(&file) {
-        Ok(Content::Wad) => return lint_wad(rt, &mut file, name, iwad, choice, writer, why),
+        Ok(Content::Wad) => return lint_wad(rt, &mut file.file, name, iwad, choice, writer, why),
         Ok(Content::Text | Content::Picture) => {
-            return lint_script(rt, path, &mut file, name, iwad, choice, writer, faults, why);
+            return lint_script(rt, path, &mut file.file, name, iwad, choice, writer, faults, why);
         }
         _ => {}
     }
@@ -118,11 +118,11 @@ where
         (W.contents writer.old) (W.contents writer.new)
         (F.contents faults.old) (F.contents faults.new) }
 {
-    let mut file = open_at(rt, path, Access::Reads, why)?;
+    let mut file = open_read(rt, path, why)?;
     match content_in(&file) {
         Ok(Content::Wad) => return dump_wad(
             rt.alloc(),
-            &mut file,
+            &mut file.file,
             names,
             is_exact,
             writer,
@@ -132,7 +132,7 @@ where
         Ok(Content::Text | Content::Picture) => return dump_script(
             rt.alloc(),
             path,
-            &mut file,
+            &mut file.file,
             names,
             writer,
             faults,
@@ -166,11 +166,11 @@ where
         (W.contents writer.old) (W.contents writer.new)
         (F.contents faults.old) (F.contents faults.new) }
 {
-    let mut file = open_at(rt, path, Access::Reads, why)?;
+    let mut file = open_read(rt, path, why)?;
     match content_in(&file) {
-        Ok(Content::Wad) => return picture_wad(rt.alloc(), rt, &mut file, wanted, writer, why),
+        Ok(Content::Wad) => return picture_wad(rt.alloc(), rt, &mut file.file, wanted, writer, why),
         Ok(Content::Text | Content::Picture) => return picture_script(
-            rt, path, &mut file, wanted, writer, faults, why,
+            rt, path, &mut file.file, wanted, writer, faults, why,
         ),
         _ => {}
     }
@@ -198,9 +198,9 @@ where
     ensures built { IsBuiltAt path.now result (W.contents writer.old) (W.contents writer.new)
         (F.contents faults.old) (F.contents faults.new) }
 {
-    let mut file = open_at(rt, path, Access::Reads, why)?;
+    let mut file = open_read(rt, path, why)?;
     if let Ok(Content::Text | Content::Picture) = content_in(&file) {
-        return build_script(rt, path, &mut file, out, writer, faults, why);
+        return build_script(rt, path, &mut file.file, out, writer, faults, why);
     }
     let file = NotedFile::new(file);
     let disk = FileDisk::new(&file, false);
