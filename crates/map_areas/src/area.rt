@@ -2,6 +2,7 @@
 ghost use Rattle.std.specs.Prelude.{◌≡◌, ℕ, All, IfErr, IfOk, OnOk, length, true};
 ghost use Rattle.map_areas.specs.Apart.{KeepsAlone, doubled};
 ghost use Rattle.map_areas.specs.Bordered.{IsBordered};
+ghost use Rattle.map_areas.specs.Changes.{KeepsUnchanged};
 ghost use Rattle.map_areas.specs.Drawn.{AreTaken, drawn};
 ghost use Rattle.map_areas.specs.Errors.{IsOfMap};
 ghost use Rattle.map_areas.specs.Outlines.{JudgesCorners, edges_round};
@@ -9,10 +10,12 @@ ghost use Rattle.map_areas.specs.Areas.{DrawsArea};
 ghost use Rattle.map_areas.specs.Stays.{BecomesLine, BecomesSide, EachBecomes};
 ghost use Rattle.map_commands.specs.Step.{InRange};
 ghost use Rattle.map_plane.specs.Places.{placed_lines};
+ghost use Rattle.map_tables.specs.WellFormed.{WellFormed};
 
 use crate::alone::find_alone;
 use crate::border::{Border, border_of};
 use crate::bordered::find_bordered;
+use crate::changes::changing_of;
 use crate::drawing::{Drawing, Paint, drawing_of};
 use crate::error::AreaError;
 use crate::inside::find_none_inside;
@@ -81,7 +84,10 @@ fn look_at(
     new: &Map,
     paint: &Paint,
     border: &Border,
+    changing: &[Command],
 ) -> Result<(), AreaError>
+    requires well_formed { WellFormed map.now.tables }
+    requires others { KeepsUnchanged changing.now map.now.tables new.now.tables }
     requires vertices { ground.now.vertices.items ≡ map.now.tables.vertices }
     requires lines { ground.now.lines.items ≡ placed_lines map.now.tables }
     requires doubled { ground.now.doubled.items ≡ doubled (placed_lines map.now.tables) }
@@ -95,8 +101,8 @@ fn look_at(
         paint.now.sector map.now.tables new.now.tables) }
     ensures refused { IfErr result IsOfMap }
 {
-    find_kept(map, new, paint.round, paint.sector)?;
-    find_alone(map, new, border)?;
+    find_kept(map, new, paint.round, paint.sector, changing)?;
+    find_alone(map, new, border, changing)?;
     let lines = placed_lines(alloc, new)?;
     find_bordered(map, ground, new, &lines, paint, border)
 }
@@ -129,7 +135,8 @@ fn commands_within(
     let commands = drawing.into_commands();
     let all = commands.as_slice();
     let new = try_commands(alloc, map, all)?;
-    look_at(alloc, map, &ground, &new, &paint, &border)?;
+    let changing = changing_of(alloc, all)?;
+    look_at(alloc, map, &ground, &new, &paint, &border, &changing)?;
     Ok(commands)
 }
 
