@@ -5,3 +5,4 @@ pub mod Others
 pub mod LeftAlone
 pub mod Whole
 pub mod Bordering
+pub mod Parts
