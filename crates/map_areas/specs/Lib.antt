@@ -3,6 +3,8 @@ pub mod Drawn
 pub mod Stays
 pub mod Outlines
 pub mod Apart
+pub mod Changes
 pub mod Ways
 pub mod Bordered
 pub mod Areas
+pub mod Refusals

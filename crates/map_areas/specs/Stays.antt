@@ -74,10 +74,14 @@ abbrev pub BecomesSide : Option ℕ → ℕ → Side → Side → Type 0
 BecomesSide round sector old new =
     (new ≡ old) ⊎ (IsTurned round sector old new ⊎ ((round ≡ None) × IsMadeOpen old new))
 
--- each item of a list is still there under its number, and what became of it is as the relation says
-abbrev pub EachBecomes : {X : Type 0} → (X → X → Type 0) → List X → List X → Type 0
-EachBecomes {X = X} Becomes old new = (n : ℕ) (x : X) → slice_get old n ≡ Some x
+-- an item of a list, if there is one with the number, is still there, and what became of it is as the relation says
+abbrev pub BecomesAt : {X : Type 0} → (X → X → Type 0) → List X → List X → ℕ → Type 0
+BecomesAt {X = X} Becomes old new n = (x : X) → slice_get old n ≡ Some x
     → (y : X) × (slice_get new n ≡ Some y) × Becomes x y
+
+-- so for each item of a list
+abbrev pub EachBecomes : {X : Type 0} → (X → X → Type 0) → List X → List X → Type 0
+EachBecomes Becomes old new = (n : ℕ) → BecomesAt Becomes old new n
 
 -- the flags of a line that became two-sided: 4 is set, 1 isn't, the others stay
 abbrev pub opened_flags : ℕ → ℕ

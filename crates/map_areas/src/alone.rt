@@ -1,14 +1,18 @@
 //! Lines that an area leaves alone, looked at in the map that its commands leave.
-ghost use Rattle.std.specs.Prelude.{◌≡◌, ℕ, IfErr, IsTrue, OnOk, slice_get};
+ghost use Rattle.std.specs.Prelude.{◌≡◌, ℕ, IfErr, IsTrue, OnOk, slice_get, true};
 ghost use Rattle.std.specs.List.{list_any};
 ghost use Rattle.map_areas.specs.Apart.{KeepsAlone, KeepsRecord, meets_edge, has_middle_in, is_alone};
+ghost use Rattle.map_areas.specs.Changes.{KeepsUnchanged, KeepsTouched};
 ghost use Rattle.map_areas.specs.Errors.{IsCommandRefusal};
 ghost use Rattle.map_plane.specs.Meeting.{ends_at, is_on};
 ghost use Rattle.map_plane.specs.Places.{placed};
+ghost use Rattle.map_tables.specs.WellFormed.{WellFormed};
 
 use crate::border::{Border, sum};
+use crate::changes::is_touched;
 use crate::error::AreaError;
-use lump_records::{Line, Side};
+use lump_records::{Line, NO_SIDE, Side};
+use map_commands::Command;
 use map_plane::{PlacedLine, crosses, ends_at, is_inside, is_on};
 use map_tables::{Kind, Map};
 
@@ -109,19 +113,49 @@ fn keeps_record(map: &Map, new: &Map, number: u32, line: &Line) -> bool
         && keeps_side(map, new, line.left)
 }
 
-/// Refuses commands that would change a line that the border leaves alone.
-pub(crate) fn find_alone(map: &Map, new: &Map, border: &Border) -> Result<(), AreaError>
+// Whether the line with the number, if the outline leaves it alone, has its record still, and its sides have theirs.
+fn is_kept_alone(map: &Map, new: &Map, border: &Border, number: u32, line: &Line) -> bool
+    ensures { IsTrue result → is_alone border.now.edges.items border.now.doubled.items
+        (placed map.now.tables (number, line.now)) ≡ true
+        → KeepsRecord map.now.tables new.now.tables number line.now }
+{
+    !is_alone(&border.edges, &border.doubled, &placed(map, number, line))
+        || keeps_record(map, new, number, line)
+}
+
+// Whether the commands keep each line that they touch, if the outline leaves it alone.
+fn keeps_touched(map: &Map, new: &Map, border: &Border, changing: &[Command]) -> bool
+    ensures { IsTrue result → (n : ℕ) → KeepsTouched changing.now border.now.edges.items
+        border.now.doubled.items map.now.tables new.now.tables n }
+{
+    if changing.is_empty() {
+        return true;
+    }
+    for n in 0..map.count(Kind::Line) {
+        let line = map.line(n).unwrap();
+        if is_touched(changing, n, &line) && !is_kept_alone(map, new, border, n, &line) {
+            return false;
+        }
+    }
+    true
+}
+
+/// Refuses commands that would change a line that the border leaves alone. Only lines that they touch are looked at. No
+/// side may get the number that stands for none.
+pub(crate) fn find_alone(
+    map: &Map,
+    new: &Map,
+    border: &Border,
+    changing: &[Command],
+) -> Result<(), AreaError>
+    requires well_formed { WellFormed map.now.tables }
+    requires others { KeepsUnchanged changing.now map.now.tables new.now.tables }
     ensures kept { OnOk result ((n : ℕ) → KeepsAlone border.now.edges.items
         border.now.doubled.items map.now.tables new.now.tables n) }
     ensures refused { IfErr result IsCommandRefusal }
 {
-    for n in 0..map.count(Kind::Line) {
-        let line = map.line(n).unwrap();
-        if is_alone(&border.edges, &border.doubled, &placed(map, n, &line)) {
-            if !keeps_record(map, new, n, &line) {
-                return Err(AreaError::OutOfRange);
-            }
-        }
+    if keeps_side(map, new, NO_SIDE) && keeps_touched(map, new, border, changing) {
+        return Ok(());
     }
-    Ok(())
+    Err(AreaError::OutOfRange)
 }

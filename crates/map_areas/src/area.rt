@@ -2,17 +2,21 @@
 ghost use Rattle.std.specs.Prelude.{◌≡◌, ℕ, All, IfErr, IfOk, OnOk, length, true};
 ghost use Rattle.map_areas.specs.Apart.{KeepsAlone, doubled};
 ghost use Rattle.map_areas.specs.Bordered.{IsBordered};
+ghost use Rattle.map_areas.specs.Changes.{KeepsUnchanged};
 ghost use Rattle.map_areas.specs.Drawn.{AreTaken, drawn};
-ghost use Rattle.map_areas.specs.Errors.{IsOfMap};
+ghost use Rattle.map_areas.specs.Errors.{IsCommandRefusal, IsOfMap};
 ghost use Rattle.map_areas.specs.Outlines.{JudgesCorners, edges_round};
 ghost use Rattle.map_areas.specs.Areas.{DrawsArea};
+ghost use Rattle.map_areas.specs.Refusals.{IsAreaRefusal};
 ghost use Rattle.map_areas.specs.Stays.{BecomesLine, BecomesSide, EachBecomes};
 ghost use Rattle.map_commands.specs.Step.{InRange};
 ghost use Rattle.map_plane.specs.Places.{placed_lines};
+ghost use Rattle.map_tables.specs.WellFormed.{WellFormed};
 
 use crate::alone::find_alone;
 use crate::border::{Border, border_of};
 use crate::bordered::find_bordered;
+use crate::changes::changing_of;
 use crate::drawing::{Drawing, Paint, drawing_of};
 use crate::error::AreaError;
 use crate::inside::find_none_inside;
@@ -46,10 +50,11 @@ fn find_round(
     requires lines { ground.now.lines.items ≡ placed_lines map.now.tables }
     requires doubled { ground.now.doubled.items ≡ doubled (placed_lines map.now.tables) }
     ensures refused { IfErr result IsOfMap }
+    ensures reason { IfErr result (IsAreaRefusal map.now.tables border.now.doubled.items) }
 {
     let round = sector_round(map, ground, border)?;
     if round.is_none() {
-        find_none_inside(alloc, &ground.lines, border)?;
+        find_none_inside(alloc, map, &ground.lines, border)?;
     }
     Ok(round)
 }
@@ -81,7 +86,10 @@ fn look_at(
     new: &Map,
     paint: &Paint,
     border: &Border,
+    changing: &[Command],
 ) -> Result<(), AreaError>
+    requires well_formed { WellFormed map.now.tables }
+    requires others { KeepsUnchanged changing.now map.now.tables new.now.tables }
     requires vertices { ground.now.vertices.items ≡ map.now.tables.vertices }
     requires lines { ground.now.lines.items ≡ placed_lines map.now.tables }
     requires doubled { ground.now.doubled.items ≡ doubled (placed_lines map.now.tables) }
@@ -93,10 +101,10 @@ fn look_at(
         border.now.doubled.items map.now.tables new.now.tables n) }
     ensures border { OnOk result (IsBordered border.now.edges.items paint.now.round
         paint.now.sector map.now.tables new.now.tables) }
-    ensures refused { IfErr result IsOfMap }
+    ensures refused { IfErr result IsCommandRefusal }
 {
-    find_kept(map, new, paint.round, paint.sector)?;
-    find_alone(map, new, border)?;
+    find_kept(map, new, paint.round, paint.sector, changing)?;
+    find_alone(map, new, border, changing)?;
     let lines = placed_lines(alloc, new)?;
     find_bordered(map, ground, new, &lines, paint, border)
 }
@@ -113,6 +121,7 @@ fn commands_within(
     ensures area { IfOk result (λ commands.
         DrawsArea edges.items map.now.tables (drawn map.now.tables commands.items)) }
     ensures refused { IfErr result IsOfMap }
+    ensures reason { IfErr result (IsAreaRefusal map.now.tables (doubled edges.items)) }
 {
     let ground = ground_of(alloc, map)?;
     let border = border_of(alloc, map, &ground.lines, edges)?;
@@ -129,7 +138,8 @@ fn commands_within(
     let commands = drawing.into_commands();
     let all = commands.as_slice();
     let new = try_commands(alloc, map, all)?;
-    look_at(alloc, map, &ground, &new, &paint, &border)?;
+    let changing = changing_of(alloc, all)?;
+    look_at(alloc, map, &ground, &new, &paint, &border, &changing)?;
     Ok(commands)
 }
 
@@ -140,6 +150,8 @@ pub fn area_commands(alloc: Global, map: &Map, area: &Area) -> Result<Vec<Comman
     ensures taken { IfOk result (λ commands. AreTaken map.now.tables commands.items) }
     ensures area { IfOk result (λ commands. DrawsArea (edges_round true area.now.corners.items)
         map.now.tables (drawn map.now.tables commands.items)) }
+    ensures reason { IfErr result (IsAreaRefusal map.now.tables
+        (doubled (edges_round true area.now.corners.items))) }
 {
     let edges = polygon(alloc, &area.corners, true)?;
     commands_within(alloc, map, area, edges)

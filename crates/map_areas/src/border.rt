@@ -1,7 +1,7 @@
 //! The border of a polygon: its edges, and the places at which they are cut.
 ghost use Rattle.std.specs.Prelude.{◌≡◌, ◌&&◌, IfErr, IfOk, true};
 ghost use Rattle.map_areas.specs.Apart.{doubled, doubled_line, place_sum};
-ghost use Rattle.map_areas.specs.Errors.{IsOfMap};
+ghost use Rattle.map_areas.specs.Refusals.{IsOfEdge, holds_middle};
 ghost use Rattle.map_plane.specs.Meeting.{is_on};
 
 use crate::crossing::near_crossing;
@@ -60,7 +60,7 @@ pub(crate) fn twice(alloc: Global, lines: &[PlacedLine]) -> Result<Vec<PlacedLin
 fn crossing(edge: &PlacedLine, line: &PlacedLine) -> Result<Vertex, AreaError>
     ensures whole { IfOk result (λ place.
         (is_on edge.now place && is_on line.now place) ≡ true) }
-    ensures refused { IfErr result IsOfMap }
+    ensures refused { IfErr result IsOfEdge }
 {
     let near = near_crossing(edge, line);
     if is_on(edge, near) && is_on(line, near) {
@@ -74,12 +74,12 @@ fn crossing(edge: &PlacedLine, line: &PlacedLine) -> Result<Vertex, AreaError>
 
 // Adds the vertices that lie between the ends of the edge.
 fn put_vertices(stops: &mut Vec<Vertex>, map: &Map, edge: &PlacedLine) -> Result<(), AreaError>
-    ensures refused { IfErr result IsOfMap }
+    ensures refused { IfErr result IsOfEdge }
 {
     for n in 0..map.count(Kind::Vertex) {
         let vertex = map.vertex(n).unwrap();
         if is_between(edge, vertex) {
-            put_along(stops, edge.from, vertex)?;
+            put_along(stops, edge, vertex)?;
         }
     }
     Ok(())
@@ -91,11 +91,11 @@ fn put_crossings(
     lines: &[PlacedLine],
     edge: &PlacedLine,
 ) -> Result<(), AreaError>
-    ensures refused { IfErr result IsOfMap }
+    ensures refused { IfErr result IsOfEdge }
 {
     for line in lines {
         if crosses_way(edge, line) {
-            put_along(stops, edge.from, crossing(edge, line)?)?;
+            put_along(stops, edge, crossing(edge, line)?)?;
         }
     }
     Ok(())
@@ -108,7 +108,7 @@ fn stops_of(
     lines: &[PlacedLine],
     edge: &PlacedLine,
 ) -> Result<Vec<Vertex>, AreaError>
-    ensures refused { IfErr result IsOfMap }
+    ensures refused { IfErr result IsOfEdge }
 {
     let mut stops = Vec::new(alloc);
     stops.push(edge.from)?;
@@ -124,7 +124,7 @@ fn all_stops(
     lines: &[PlacedLine],
     edges: &[PlacedLine],
 ) -> Result<Vec<Vertex>, AreaError>
-    ensures refused { IfErr result IsOfMap }
+    ensures refused { IfErr result IsOfEdge }
 {
     let mut all = Vec::new(alloc);
     for edge in edges {
@@ -143,7 +143,7 @@ pub(crate) fn border_of(
 ) -> Result<Border, AreaError>
     ensures edges { IfOk result (λ border. border.edges.items ≡ edges.items) }
     ensures doubled { IfOk result (λ border. border.doubled.items ≡ doubled edges.items) }
-    ensures refused { IfErr result IsOfMap }
+    ensures refused { IfErr result IsOfEdge }
 {
     let doubled = twice(alloc, &edges)?;
     let stops = all_stops(alloc, map, lines, &edges)?;
@@ -156,7 +156,9 @@ pub(crate) fn border_of(
 
 impl Border {
     /// Whether the middle of the two places is inside the polygon, and not on an edge.
-    pub(crate) fn holds_middle(&self, a: Vertex, b: Vertex) -> bool {
+    pub(crate) fn holds_middle(&self, a: Vertex, b: Vertex) -> bool
+        ensures { result ≡ holds_middle self.now.doubled.items a b }
+    {
         let middle = sum(a, b);
         is_inside(&self.doubled, middle) && !is_on_any(&self.doubled, middle)
     }

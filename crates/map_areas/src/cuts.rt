@@ -1,4 +1,7 @@
 //! Places along a line, in order.
+ghost use Rattle.std.specs.Prelude.{◌≡◌, IfOk, OnOk, true};
+ghost use Rattle.map_areas.specs.Refusals.{AreOfLine, is_of_line};
+
 use crate::ways::is_between;
 use lump_records::Vertex;
 use map_plane::PlacedLine;
@@ -10,12 +13,17 @@ fn distance(a: Vertex, b: Vertex) -> u32 {
     across.saturating_add((i32::from(a.y) - i32::from(b.y)).unsigned_abs())
 }
 
-/// Adds the place to places that lie along a line which begins at `from`, in order, if it isn't one of them.
+/// Adds the place to places along the line, in order from its first end, if it isn't one of them.
 pub(crate) fn put_along(
     places: &mut Vec<Vertex>,
-    from: Vertex,
+    line: &PlacedLine,
     place: Vertex,
-) -> Result<(), AllocError> {
+) -> Result<(), AllocError>
+    requires { is_of_line line.now place ≡ true }
+    ensures { OnOk result
+        (AreOfLine line.now places.old.items → AreOfLine line.now places.new.items) }
+{
+    let from = line.from;
     let far = distance(from, place);
     let at = places
         .iter()
@@ -37,11 +45,13 @@ pub(crate) fn cuts_of(
     alloc: Global,
     places: &[Vertex],
     line: &PlacedLine,
-) -> Result<Vec<Vertex>, AllocError> {
+) -> Result<Vec<Vertex>, AllocError>
+    ensures { IfOk result (λ cuts. AreOfLine line.now cuts.items) }
+{
     let mut cuts = Vec::new(alloc);
     for place in places {
         if is_between(line, *place) {
-            put_along(&mut cuts, line.from, *place)?;
+            put_along(&mut cuts, line, *place)?;
         }
     }
     Ok(cuts)

@@ -1,12 +1,15 @@
 //! What becomes of the sides and lines that were there, looked at in the map that the commands leave.
-ghost use Rattle.std.specs.Prelude.{◌≡◌, ◌↔◌, ◌⊎◌, IfErr, IsTrue, None, OnOk, Some};
+ghost use Rattle.std.specs.Prelude.{◌≡◌, ◌↔◌, ◌⊎◌, ℕ, IfErr, IsTrue, None, OnOk, Some, true};
+ghost use Rattle.std.specs.List.{list_any};
+ghost use Rattle.map_areas.specs.Changes.{KeepsUnchanged, sets_line, sets_side};
 ghost use Rattle.map_areas.specs.Errors.{IsCommandRefusal};
-ghost use Rattle.map_areas.specs.Stays.{BecomesLine, BecomesSide, EachBecomes, IsMadeOpen, IsTurned, TakesOver, no_texture, opened_flags};
+ghost use Rattle.map_areas.specs.Stays.{BecomesAt, BecomesLine, BecomesSide, EachBecomes, IsMadeOpen, IsTurned, TakesOver, no_texture, opened_flags};
 
 use crate::error::AreaError;
 use crate::walls::{NO_TEXTURE, opened_flags};
 use lump_records::{Line, Name8, Side};
-use map_tables::{Kind, Map};
+use map_commands::Command;
+use map_tables::{Edit, Item, Map};
 
 // Whether a texture stays, or the middle texture comes where there was none.
 fn takes_over(was: &Name8, middle: &Name8, is: &Name8) -> bool
@@ -98,34 +101,62 @@ fn is_kept_line(old: &Line, new: &Line) -> bool
         && has_flags(old.flags, new.flags)
 }
 
-// Whether each side became what an area makes of sides.
-fn keeps_sides(map: &Map, new: &Map, round: Option<u16>, sector: u16) -> bool
-    ensures { IsTrue result
-        → EachBecomes (BecomesSide round sector) map.now.tables.sides new.now.tables.sides }
+// Whether the side with the number, if there was one, became what an area makes of sides.
+fn keeps_side(map: &Map, new: &Map, round: Option<u16>, sector: u16, number: u16) -> bool
+    ensures { IsTrue result → BecomesAt (BecomesSide round sector) map.now.tables.sides
+        new.now.tables.sides number }
 {
-    for n in 0..map.count(Kind::Side) {
-        let side = map.side(n).unwrap();
-        let Some(found) = new.side(n) else {
-            return false;
-        };
-        if !is_kept_side(&side, &found, round, sector) {
-            return false;
-        }
+    match (map.side(u32::from(number)), new.side(u32::from(number))) {
+        (Some(side), Some(found)) => is_kept_side(&side, &found, round, sector),
+        (Some(_), None) => false,
+        (None, _) => true,
     }
-    true
 }
 
-// Whether each line became what an area makes of lines.
-fn keeps_lines(map: &Map, new: &Map) -> bool
+// Whether the line with the number, if there was one, became what an area makes of lines.
+fn keeps_line(map: &Map, new: &Map, number: u16) -> bool
     ensures { IsTrue result
-        → EachBecomes BecomesLine map.now.tables.lines new.now.tables.lines }
+        → BecomesAt BecomesLine map.now.tables.lines new.now.tables.lines number }
 {
-    for n in 0..map.count(Kind::Line) {
-        let line = map.line(n).unwrap();
-        let Some(found) = new.line(n) else {
-            return false;
-        };
-        if !is_kept_line(&line, &found) {
+    match (map.line(u32::from(number)), new.line(u32::from(number))) {
+        (Some(line), Some(found)) => is_kept_line(&line, &found),
+        (Some(_), None) => false,
+        (None, _) => true,
+    }
+}
+
+// Whether the side or the line that the command changes, if it does, became what an area makes of such.
+fn keeps_changed(map: &Map, new: &Map, round: Option<u16>, sector: u16, command: &Command) -> bool
+    ensures sides { IsTrue result → (n : ℕ) → sets_side n command.now ≡ true
+        → BecomesAt (BecomesSide round sector) map.now.tables.sides new.now.tables.sides n }
+    ensures lines { IsTrue result → (n : ℕ) → sets_line n command.now ≡ true
+        → BecomesAt BecomesLine map.now.tables.lines new.now.tables.lines n }
+{
+    match command {
+        Command::Edit(Edit::Set(number, Item::Side(_))) => {
+            keeps_side(map, new, round, sector, *number)
+        }
+        Command::Edit(Edit::Set(number, Item::Line(_))) => keeps_line(map, new, *number),
+        Command::Split(split) => keeps_line(map, new, split.line),
+        _ => true,
+    }
+}
+
+// Whether each side and line that the commands change became what an area makes of such.
+fn keeps_all_changed(
+    map: &Map,
+    new: &Map,
+    round: Option<u16>,
+    sector: u16,
+    changing: &[Command],
+) -> bool
+    ensures sides { IsTrue result → (n : ℕ) → list_any (sets_side n) changing.now ≡ true
+        → BecomesAt (BecomesSide round sector) map.now.tables.sides new.now.tables.sides n }
+    ensures lines { IsTrue result → (n : ℕ) → list_any (sets_line n) changing.now ≡ true
+        → BecomesAt BecomesLine map.now.tables.lines new.now.tables.lines n }
+{
+    for command in changing {
+        if !keeps_changed(map, new, round, sector, command) {
             return false;
         }
     }
@@ -133,19 +164,22 @@ fn keeps_lines(map: &Map, new: &Map) -> bool
 }
 
 /// Refuses commands that would leave a map in which something else became of a side or a line than an area makes of it.
+/// Only what the commands change is looked at.
 pub(crate) fn find_kept(
     map: &Map,
     new: &Map,
     round: Option<u16>,
     sector: u16,
+    changing: &[Command],
 ) -> Result<(), AreaError>
+    requires { KeepsUnchanged changing.now map.now.tables new.now.tables }
     ensures sides { OnOk result
         (EachBecomes (BecomesSide round sector) map.now.tables.sides new.now.tables.sides) }
     ensures lines { OnOk result
         (EachBecomes BecomesLine map.now.tables.lines new.now.tables.lines) }
     ensures refused { IfErr result IsCommandRefusal }
 {
-    if keeps_sides(map, new, round, sector) && keeps_lines(map, new) {
+    if keeps_all_changed(map, new, round, sector, changing) {
         return Ok(());
     }
     Err(AreaError::OutOfRange)

@@ -5,6 +5,7 @@ mod alone;
 mod area;
 mod border;
 mod bordered;
+mod changes;
 mod copying;
 mod crossing;
 mod cuts;

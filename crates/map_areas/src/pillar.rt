@@ -1,19 +1,26 @@
 //! Pillars: polygons with nothing inside.
-ghost use Rattle.std.specs.Prelude.{All, IfErr, IfOk};
+ghost use Rattle.std.specs.Prelude.{◌≡◌, All, IfErr, IfOk, false, slice_get};
+ghost use Rattle.std.specs.List.{list_any};
+ghost use Rattle.std.specs.Option.{option_map_or};
 ghost use Rattle.map_areas.specs.Drawn.{AreTaken, drawn};
 ghost use Rattle.map_areas.specs.Errors.{IsOfMap};
-ghost use Rattle.map_areas.specs.Outlines.{JudgesCorners};
+ghost use Rattle.map_areas.specs.Outlines.{JudgesCorners, edges_round};
+ghost use Rattle.map_areas.specs.Refusals.{IsPillarRefusal, is_in_the_way, touches};
 ghost use Rattle.map_areas.specs.Stays.{KeepsItems};
 ghost use Rattle.map_commands.specs.Step.{InRange};
+ghost use Rattle.map_plane.specs.Meeting.{is_on};
+ghost use Rattle.map_plane.specs.Places.{placed_lines};
 
-use crate::drawing::{Drawing, drawing_of, number_of, vertex_of};
+use crate::drawing::{Drawing, drawing_of, vertex_of};
 use crate::error::{AreaError, Part};
 use crate::polygon::polygon;
 use crate::trial::try_commands;
 use crate::walls::{add_side, add_wall, solid_side};
 use lump_records::{NO_SIDE, Name8, Vertex};
 use map_commands::Command;
-use map_plane::{PlacedLine, crosses, is_inside, is_on, nearest, placed_lines, sector_shown};
+use map_plane::{
+    PlacedLine, crosses, is_inside, is_on, is_on_any, nearest, placed_lines, sector_shown,
+};
 use map_tables::{Kind, Map, MapError};
 use std::alloc::Global;
 
@@ -40,6 +47,7 @@ fn part_at(map: &Map, lines: &[PlacedLine], edge: &PlacedLine) -> Part {
 // The sector that all corners belong to.
 fn sector_of(map: &Map, lines: &[PlacedLine], edges: &[PlacedLine]) -> Result<u16, AreaError>
     ensures refused { IfErr result IsOfMap }
+    ensures reason { IfErr result (IsPillarRefusal map.now.tables edges.now) }
 {
     let mut first: Option<Part> = None;
     for edge in edges {
@@ -65,39 +73,70 @@ fn sector_of(map: &Map, lines: &[PlacedLine], edges: &[PlacedLine]) -> Result<u1
 }
 
 // Whether two lines have a point in common.
-fn touches(l: &PlacedLine, k: &PlacedLine) -> bool {
+fn touches(l: &PlacedLine, k: &PlacedLine) -> bool
+    ensures { result ≡ touches l.now k.now }
+{
     crosses(l, k) || is_on(l, k.from) || is_on(l, k.to) || is_on(k, l.from) || is_on(k, l.to)
 }
 
+// Whether one of the edges has a point in common with the line.
+fn is_touched(edges: &[PlacedLine], line: &PlacedLine) -> bool
+    ensures { result ≡ list_any (λ e. touches e line.now) edges.now }
+{
+    edges.iter().any(|edge| touches(edge, line))
+}
+
 // Whether the line has a point in common with an edge, or lies inside.
-fn is_in_the_way(edges: &[PlacedLine], line: &PlacedLine) -> bool {
-    edges.iter().any(|edge| touches(edge, line)) || is_inside(edges, line.from)
+fn is_in_the_way(edges: &[PlacedLine], line: &PlacedLine) -> bool
+    ensures { result ≡ is_in_the_way edges.now line.now }
+{
+    is_touched(edges, line) || is_inside(edges, line.from)
+}
+
+// Whether the line with the number isn't wholly outside.
+fn is_line_inside(lines: &[PlacedLine], edges: &[PlacedLine], number: u32) -> bool
+    ensures { result
+        ≡ option_map_or (is_in_the_way edges.now) (slice_get lines.now number) false }
+{
+    match lines.get(number as usize) {
+        Some(line) => is_in_the_way(edges, line),
+        None => false,
+    }
 }
 
 // Refuses the first line that isn't wholly outside.
-fn find_no_line(lines: &[PlacedLine], edges: &[PlacedLine]) -> Result<(), AreaError>
+fn find_no_line(map: &Map, lines: &[PlacedLine], edges: &[PlacedLine]) -> Result<(), AreaError>
+    requires { lines.now ≡ placed_lines map.now.tables }
     ensures refused { IfErr result IsOfMap }
+    ensures reason { IfErr result (IsPillarRefusal map.now.tables edges.now) }
 {
-    for line in lines {
-        if is_in_the_way(edges, line) {
-            return Err(AreaError::NotEmpty {
-                line: number_of(line),
-            });
+    for n in 0..map.count(Kind::Line) {
+        if is_line_inside(lines, edges, n) {
+            return Err(AreaError::NotEmpty { line: n as u16 });
         }
     }
     Ok(())
 }
 
+// Whether the vertex with the number lies on an edge.
+fn is_vertex_under(map: &Map, edges: &[PlacedLine], number: u32) -> bool
+    ensures { result ≡ option_map_or (λ v. list_any (λ e. is_on e v) edges.now)
+        (slice_get map.now.tables.vertices number) false }
+{
+    match map.vertex(number) {
+        Some(vertex) => is_on_any(edges, vertex),
+        None => false,
+    }
+}
+
 // Refuses the first vertex that is on an edge.
 fn find_no_vertex(map: &Map, edges: &[PlacedLine]) -> Result<(), AreaError>
     ensures refused { IfErr result IsOfMap }
+    ensures reason { IfErr result (IsPillarRefusal map.now.tables edges.now) }
 {
     for n in 0..map.count(Kind::Vertex) {
-        let vertex = map.vertex(n).unwrap();
-        if edges.iter().any(|edge| is_on(edge, vertex)) {
-            return Err(AreaError::OverVertex {
-                vertex: u16::try_from(n).unwrap_or(u16::MAX),
-            });
+        if is_vertex_under(map, edges, n) {
+            return Err(AreaError::OverVertex { vertex: n as u16 });
         }
     }
     Ok(())
@@ -135,10 +174,11 @@ fn commands_within(
     ensures stays { IfOk result (λ commands.
         KeepsItems map.now.tables (drawn map.now.tables commands.items)) }
     ensures refused { IfErr result IsOfMap }
+    ensures reason { IfErr result (IsPillarRefusal map.now.tables edges.now) }
 {
     let lines = placed_lines(alloc, map)?;
     let sector = sector_of(map, &lines, edges)?;
-    find_no_line(&lines, edges)?;
+    find_no_line(map, &lines, edges)?;
     find_no_vertex(map, edges)?;
     let mut drawing = drawing_of(alloc, map)?;
     draw(&mut drawing, edges, wall, sector)?;
@@ -155,6 +195,8 @@ pub fn pillar_commands(alloc: Global, map: &Map, pillar: &Pillar) -> Result<Vec<
     ensures taken { IfOk result (λ commands. AreTaken map.now.tables commands.items) }
     ensures stays { IfOk result (λ commands.
         KeepsItems map.now.tables (drawn map.now.tables commands.items)) }
+    ensures reason { IfErr result
+        (IsPillarRefusal map.now.tables (edges_round false pillar.now.corners.items)) }
 {
     let edges = polygon(alloc, &pillar.corners, false)?;
     commands_within(alloc, map, pillar.wall, &edges)

@@ -2,6 +2,7 @@
 ghost use Rattle.std.specs.Prelude.{◌≡◌, IfErr, IfOk, reverse, slice_get};
 ghost use Rattle.map_areas.specs.Errors.{IsOfMemory};
 ghost use Rattle.map_areas.specs.Outlines.{JudgesCorners, bad_corner, edge_from, edges_round, first_corner, lacks_area, next_corner, outline_edges, runs_clockwise};
+ghost use Rattle.map_areas.specs.Refusals.{IsOfOutline};
 
 use crate::error::AreaError;
 use lump_records::Vertex;
@@ -106,6 +107,7 @@ pub(crate) fn polygon(
 ) -> Result<Vec<PlacedLine>, AreaError>
     ensures edges { IfOk result (λ edges. edges.items ≡ edges_round clockwise corners.now) }
     ensures polygon { JudgesCorners corners.now result }
+    ensures refused { IfErr result IsOfOutline }
 {
     let edges = outline_edges(alloc, corners)?;
     if let Some(corner) = bad_corner(&edges) {

@@ -1,7 +1,7 @@
 //! What is round a border before anything is drawn.
 ghost use Rattle.std.specs.Prelude.{◌≡◌, IfErr};
 ghost use Rattle.map_areas.specs.Apart.{doubled};
-ghost use Rattle.map_areas.specs.Errors.{IsOfMap};
+ghost use Rattle.map_areas.specs.Refusals.{IsOfSectors};
 ghost use Rattle.map_plane.specs.Places.{placed_lines};
 
 use crate::border::Border;
@@ -17,7 +17,7 @@ pub(crate) fn sector_round(
 ) -> Result<Option<u16>, AreaError>
     requires lines { ground.now.lines.items ≡ placed_lines map.now.tables }
     requires doubled { ground.now.doubled.items ≡ doubled (placed_lines map.now.tables) }
-    ensures refused { IfErr result IsOfMap }
+    ensures refused { IfErr result IsOfSectors }
 {
     let mut first: Option<Part> = None;
     for (n, from) in border.stops.iter().enumerate() {

@@ -1,5 +1,6 @@
 //! The trial of commands over a copy of a map: none of them comes out unless each is accepted.
 ghost use Rattle.std.specs.Prelude.{◌≡◌, All, IfErr, IfOk, OnOk};
+ghost use Rattle.map_areas.specs.Changes.{KeepsUnchanged};
 ghost use Rattle.map_areas.specs.Drawn.{LeadTo, TakesCommand};
 ghost use Rattle.map_areas.specs.Errors.{IsCommandRefusal};
 ghost use Rattle.map_areas.specs.Stays.{KeepsItems};
@@ -69,6 +70,7 @@ pub(crate) fn try_commands(alloc: Global, map: &Map, commands: &[Command]) -> Re
     ensures range { OnOk result (All InRange commands.now) }
     ensures taken { IfOk result (λ new. LeadTo map.now.tables commands.now new.tables) }
     ensures stays { IfOk result (λ new. KeepsItems map.now.tables new.tables) }
+    ensures others { IfOk result (λ new. KeepsUnchanged commands.now map.now.tables new.tables) }
     ensures refused { IfErr result IsCommandRefusal }
 {
     let mut copy = copy_of(alloc, map)?;

@@ -3,6 +3,7 @@ use Rattle.map_commands.specs.declared.command.Command.{Command}
 use Rattle.map_plane.specs.declared.places.PlacedLine.{PlacedLine}
 use Rattle.map_areas.specs.Apart.{doubled}
 use Rattle.map_areas.specs.Drawn.{LeadTo}
+use Rattle.map_areas.proofs.Others.{others_changing}
 use Rattle.map_areas.proofs.Whole.{bordered_drawn, stays_drawn}
 use Rattle.map_areas.proofs.area.commands_within.Goals as goal
 
@@ -27,3 +28,8 @@ returns-clause-area c =
       border =
           bordered_drawn m new cs es border.edges.items round c.count-sectors.result led edges number c.in_ok-look_at.ensures.border;
     }
+
+pub look_at-requires-clause-others : goal.look_at-requires-clause-others
+look_at-requires-clause-others c =
+    others_changing c.as_slice-all.result.now c.deref-3.result.now c.args.map.now.tables c.in_ok-new.new.tables
+    (c.deref-3.ensures.value ∙ c.in_ok-changing.ensures) c.in_ok-new.ensures.others

@@ -1,4 +1,5 @@
 use Rattle.std.proofs.Common.{take}
+use Rattle.map_areas.specs.Changes.{KeepsUnchanged}
 use Rattle.map_areas.specs.Drawn.{LeadTo}
 use Rattle.map_areas.specs.Stays.{KeepsItems}
 use Rattle.map_areas.proofs.trial.try_commands.Given as goal
@@ -8,4 +9,5 @@ abbrev pub invariant-loop-command : goal.invariant-loop-command
 invariant-loop-command l = record {
   taken : LeadTo l.map.tables (take l.command-index l.commands) l.copy.tables;
   stays : KeepsItems l.map.tables l.copy.tables;
+  others : KeepsUnchanged (take l.command-index l.commands) l.map.tables l.copy.tables;
 }
