@@ -1,5 +1,5 @@
 -- Requests about scripts, and how loud each request is.
-use Rattle.std.proofs.Common.{◌≡◌, ◌⊎◌, ℕ, Bool, false, true, List, Option, None, Some, Result, Ok, Err, ◌∙◌, inl, inr, refl, ap, arith, subst, sym}
+use Rattle.std.proofs.Common.{◌≡◌, ◌⊎◌, ◌<◌, ℕ, Bool, false, true, List, [], get_or, length, Option, None, Some, Result, Ok, Err, ◌∙◌, inl, inr, refl, ap, arith, subst, sym}
 use Rattle.cli_words.specs.declared.asked.Request.{Request}
 use Rattle.cli_words.specs.declared.asked.Request.TheVariants.{Scratch, Create, Edit, Check, Lint, Draw, TryScript, Dump, Salvage, Picture, Inspect, Levels, Build, Rebuild}
 use Rattle.cli_refusals.specs.Statuses.{status_in}
@@ -10,7 +10,8 @@ use Rattle.run_script.specs.declared.drawing.Stop.{Stop}
 use Rattle.run_script.specs.declared.error.ScriptError.{ScriptError}
 use Rattle.run_script.specs.declared.error.ScriptError.TheVariants as cut
 use Rattle.cli_program.specs.Kinds.{IsQuiet}
-use Rattle.std.specs.Prelude.{IfOk, slice_get}
+use Rattle.std.proofs.lemmas.Option.{slice_get-get_or}
+use Rattle.std.specs.Prelude.{IfOk, IfSome, slice_get}
 use Rattle.map_script.specs.Scripts.{script_lines}
 use Rattle.store_disk.specs.declared.disk.Disk.{Ghosts}
 use Rattle.cli_program.specs.Drawing.{IsHandedOn, ShowsStop, TellsRefused, TellsStopFrom}
@@ -36,10 +37,13 @@ drawn_into_as facts a b verbose how u v w x same drawn = subst (λ (t : Bool). I
 
 -- the line was told that was refused
 pub told_refused : {U : Type 0} (told : Result U ScriptError) (script : List ℕ) (lines : List (ℕ × List ℕ)) (drawn : Result (Option Stop) ScriptError) (field : Option Stop)
-    (stop : Stop) (line : ℕ × List ℕ) (d x : Option (List ℕ)) → drawn ≡ Ok field → field ≡ Some stop → slice_get lines stop.place ≡ Some line
-    → ShowsStop told script line stop.code d x → TellsRefused told script lines drawn d x
-told_refused told script lines drawn field stop line d x whole some is said =
-    subst (λ (r : Result (Option Stop) ScriptError). TellsRefused told script lines r d x) (sym (whole ∙ ap Ok some)) (line, is, said)
+    (stop : Stop) (d x : Option (List ℕ)) → drawn ≡ Ok field → field ≡ Some stop → IfOk drawn (λ o. IfSome o (λ s. s.place < length lines))
+    → ((line : ℕ × List ℕ) → slice_get lines stop.place ≡ Some line → ShowsStop told script line stop.code d x) → TellsRefused told script lines drawn d x
+told_refused told script lines drawn field stop d x whole some within said =
+    let below : stop.place < length lines = subst (λ (r : Result (Option Stop) ScriptError). IfOk r (λ o. IfSome o (λ s. s.place < length lines))) (whole ∙ ap Ok some) within in
+    let line : ℕ × List ℕ = get_or lines stop.place (0, []) in
+    let is : slice_get lines stop.place ≡ Some line = slice_get-get_or lines stop.place (0, []) below in
+    subst (λ (r : Result (Option Stop) ScriptError). TellsRefused told script lines r d x) (sym (whole ∙ ap Ok some)) (line, is, said line is)
 
 -- a script that was drawn, and how it ended, with what was told of it
 pub told_end : {S : Type 0} (facts : canvas.Ghosts S) (verbose : Bool) (name script : List ℕ) (lines : List (ℕ × List ℕ)) (drawn : Result (Option Stop) ScriptError)

@@ -1,8 +1,7 @@
 //! The request `draw`: the lines of a script, drawn onto a disk's project, or tried over maps in memory.
-ghost use Rattle.std.specs.Prelude.{◌≡◌, ◌≤◌, ◌<◌, ◌⊎◌, None, Ok, length, IfErr, IfOk, IfSome, MatchOption};
+ghost use Rattle.std.specs.Prelude.{◌≡◌, ◌≤◌, ◌<◌, ◌⊎◌, ℕ, List, None, Ok, Some, length, slice_get, IfErr, IfOk, IfSome, MatchOption};
 ghost use Rattle.std.specs.Io.KnownBytes.{Keeps};
 ghost use Rattle.cli_program.specs.Drawing.{DrawsWhole, IsDrawnOnto, IsHandedOn, IsStopTold, IsTriedOn, IsTriedOver, ShowsStop, TellsRefused, TellsStopFrom, stop_status};
-ghost use Rattle.map_script.specs.Views.{seen};
 ghost use Rattle.map_tables.specs.Projects.{body_len, project_of};
 ghost use Rattle.run_script.specs.Canvases.{Drafted, NothingWaits, draft_over};
 ghost use Rattle.run_script.specs.declared.error.ScriptError.TheVariants.{OutOfMemory};
@@ -12,7 +11,7 @@ ghost use Rattle.cli_program.specs.ScriptMaps.{IsStoppedFrom};
 use crate::over_disk::{HandedBack, not_opened, open_project};
 use cli_refusals::{DONE, Refusal};
 use lump_text::{shown_name, write_shown_lines};
-use map_script::{Names, ScriptLine, ScriptLines, script_lines};
+use map_script::{Names, ScriptLines, script_lines};
 use map_tables::Maps;
 use run_edit::EditorError;
 use run_script::{Canvas, Draft, ProjectCanvas, ScriptError, Stop, write_refused};
@@ -39,19 +38,21 @@ fn stop_told(
     alloc: Global,
     maps: &Maps,
     names: &Names,
+    lines: &ScriptLines,
     script: &str,
-    line: &ScriptLine<'_>,
-    code: u16,
+    stop: Stop,
 ) -> Result<Vec<u8>, ScriptError>
-    ensures told { IfOk result (λ told.
-        IsStopTold script.now (seen line.now) code told.items) }
+    requires { stop.place < length lines.now }
+    ensures told { IfOk result (λ told. (line : ℕ × List ℕ)
+        → slice_get lines.now stop.place ≡ Some line
+        → IsStopTold script.now line stop.code told.items) }
     ensures memory { IfErr result (λ e. e ≡ OutOfMemory) }
 {
     let Ok(name) = shown_name(alloc, script.as_bytes()) else {
         return Err(ScriptError::OutOfMemory);
     };
     let mut told = Vec::new(alloc);
-    match write_refused(alloc, maps, names, name.as_str(), line, code, &mut told) {
+    match write_refused(alloc, maps, names, lines, name.as_str(), stop, &mut told) {
         Ok(()) => Ok(told),
         Err(_) => Err(ScriptError::OutOfMemory),
     }
@@ -62,15 +63,17 @@ fn show_stop<F: Write>(
     alloc: Global,
     maps: &Maps,
     names: &Names,
+    lines: &ScriptLines,
     script: &str,
-    line: &ScriptLine<'_>,
-    code: u16,
+    stop: Stop,
     faults: &mut F,
 ) -> Result<(), ScriptError>
-    ensures { ShowsStop result script.now (seen line.now) code
+    requires { stop.place < length lines.now }
+    ensures { (line : ℕ × List ℕ) → slice_get lines.now stop.place ≡ Some line
+        → ShowsStop result script.now line stop.code
         (F.contents faults.old) (F.contents faults.new) }
 {
-    let told = match stop_told(alloc, maps, names, script, line, code) {
+    let told = match stop_told(alloc, maps, names, lines, script, stop) {
         Ok(told) => told,
         Err(error) => return Err(error),
     };
@@ -100,10 +103,7 @@ fn say_stop<F: Write>(
         Err(_) => return Ok(()),
     };
     match stopped {
-        Some(stop) => {
-            let line = lines.line(stop.place);
-            show_stop(alloc, maps, names, script, &line, stop.code, faults)
-        }
+        Some(stop) => show_stop(alloc, maps, names, lines, script, stop, faults),
         None => Ok(()),
     }
 }

@@ -1,9 +1,10 @@
--- Shapes that a script defines: `define NAME PARAM ..`, and the lines `NAME WORD ..` that draw them.
-use Rattle.std.specs.Prelude.{ℕ, Bool, true, false, ◌&&◌, not, if◌then◌else◌, List, [], ◌∷◌, Option, Some, None, Result, Ok, Err, bytes_eq, codes}
+-- Shapes that a script defines: `define NAME PARAM ..`, and the lines `NAME WORD ..` that draw them
+-- and may name what they draw.
+use Rattle.std.specs.Prelude.{ℕ, Bool, true, false, ◌&&◌, not, if◌then◌else◌, List, [], ◌∷◌, drop, Option, Some, None, Result, Ok, Err, bytes_eq, codes}
 use Rattle.std.specs.List.{list_all}
 use Rattle.std.specs.Option.{is_none}
 use Rattle.map_tables.specs.Tables.{Tables}
-use Rattle.map_script.specs.Lines.{joined_line, name_in, words_for}
+use Rattle.map_script.specs.Lines.{command_words, has_good_name, joined_line, name_in, words_for}
 use Rattle.map_script.specs.Meant.{worded}
 use Rattle.map_script.specs.Names.{is_script_name}
 use Rattle.map_script.specs.Own.{is_own_word}
@@ -46,10 +47,14 @@ abbrev pub words_in_text : List (List ℕ) → Result (List ℕ) DrawError
 words_in_text params (Err e) = Err e
 words_in_text params (Ok text) = counted_words params (text_words text)
 
--- the words that the parameters stand for, or what is wrong with the WORD .. of a call
+-- the words that the parameters stand for in a line `NAME WORD ..` or `OTHER = NAME WORD ..`, or what
+-- is wrong with it: that of a bad name comes before that of a bad word
 abbrev pub call_words : Scope → Tables → List (List ℕ) → List (List ℕ)
     → Result (List (List ℕ)) DrawError
-call_words scope m params ws = words_in_text params (joined_line (words_for scope m ws))
+call_words scope m params words =
+    if has_good_name (name_in words)
+    then words_in_text params (joined_line (words_for scope m (drop 1 (command_words words))))
+    else Err NotAName
 
 -- each parameter stands for its word
 abbrev pub with_parameters : Scope → List (List ℕ) → List (List ℕ) → Scope

@@ -1,4 +1,4 @@
-//! Lines that define shapes, `define NAME PARAM ..`, and those that draw them, `NAME WORD ..`.
+//! Lines that define shapes, `define NAME PARAM ..`, and lines that draw one, `NAME WORD ..`, and may name it.
 ghost use Rattle.std.specs.Prelude.{◌≡◌, IfErr, IfOk, IsOkUnless, MatchOption, None, Ok, Some};
 ghost use Rattle.std.specs.List.{list_all};
 ghost use Rattle.map_script.specs.Defines.{are_as_many, call_words, define_fault, define_words, is_free_name, with_parameters};
@@ -11,8 +11,8 @@ use crate::error::DrawError;
 use crate::names::Names;
 use crate::own_words::is_own_word;
 use crate::reference::is_name;
-use crate::resolving::{defined_name, replaced};
-use crate::words::next_word;
+use crate::resolving::{defined_name, has_good_name, parted, replaced};
+use crate::words::{first_word, next_word};
 use map_tables::Map;
 use std::alloc::Global;
 
@@ -81,27 +81,32 @@ fn are_as_many(parameters: &[u8], words: &[u8]) -> bool
     next_word(words).is_none()
 }
 
-/// The words that the parameters of a shape stand for, separated by spaces: `words` is the WORD .. of the line that
+/// The words that the parameters of a shape stand for, separated by spaces: those behind its name in the line that
 /// draws it, resolved first; `parameters` are its PARAM ..
 ///
 /// # Errors
 ///
-/// The error of the leftmost word that stands for nothing, `NotItsWords` if there are more or fewer than parameters, or
-/// `OutOfMemory`.
+/// `NotAName` if the line gives a name that is none, the error of the leftmost word that stands for nothing,
+/// `NotItsWords` if there are more or fewer than parameters, or `OutOfMemory`.
 pub fn call_words(
     alloc: Global,
     names: &Names,
     map: &Map,
     parameters: &[u8],
-    words: &[u8],
+    line: &[u8],
 ) -> Result<Vec<u8>, DrawError>
     ensures ok { IfOk result (λ text.
         call_words (scope_of names.now) map.now.tables (text_words parameters.now)
-        (text_words words.now) ≡ Ok (text_words text.items)) }
+        (text_words line.now) ≡ Ok (text_words text.items)) }
     ensures fault { IfErr result (λ e. TellsScriptFault e
         (call_words (scope_of names.now) map.now.tables (text_words parameters.now)
-        (text_words words.now))) }
+        (text_words line.now))) }
 {
+    let (name, command) = parted(line);
+    if !has_good_name(name) {
+        return Err(DrawError::NotAName);
+    }
+    let (_, words) = first_word(command);
     let text = match replaced(alloc, names, map, words) {
         Ok(text) => text,
         Err(error) => return Err(error),

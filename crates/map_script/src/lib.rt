@@ -33,6 +33,6 @@ pub use looping::{Range, closes, loop_name, loop_range, loop_words, opens};
 pub use meaning::Meaning;
 pub use names::{Mark, Names};
 pub use placing::{Facing, Placing};
-pub use resolving::{defined_name, resolve};
+pub use resolving::{command_of, defined_name, resolve};
 pub use script::{ScriptLine, ScriptLines, script_lines};
 pub use words::first_word;

@@ -3,6 +3,7 @@ ghost use Rattle.std.specs.Prelude.{◌≡◌, [], option_copied};
 ghost use Rattle.map_script.specs.Frames.{layers_in_front};
 ghost use Rattle.map_script.specs.Layers.{layered};
 ghost use Rattle.map_script.specs.Meant.{meant_by, meant_in};
+ghost use Rattle.map_script.specs.Scopes.{later_of};
 
 use crate::error::DrawError;
 use crate::firsts::{NO_FIRSTS, Numbers};
@@ -22,17 +23,31 @@ pub struct Mark {
     pub placing: Placing,
     /// Whether a block was open.
     pub is_within: bool,
+    /// What was answered last before it.
+    pub answered: Option<u32>,
 }
 
 /// The names defined so far, and how the open blocks place a line. A name that is defined again stands for what is
 /// newer. Names of open blocks, the newest last, hide those of the script, and go with their block. A shape has names
-/// of its own, which hide those of outside and go when its drawing ends.
+/// of its own, which hide those of outside and go when its drawing ends. The number that the script, or the shape,
+/// answered last is known too.
 #[derive(Drop)]
 pub struct Names {
     own: Frame,
     outer: Vec<Frame>,
     placing: Placing,
     is_within: bool,
+    answered: Option<u32>,
+}
+
+// What was answered later, or else earlier.
+fn later_of(answered: Option<u32>, before: Option<u32>) -> Option<u32>
+    ensures { result ≡ later_of answered before }
+{
+    match answered {
+        Some(answer) => Some(answer),
+        None => before,
+    }
 }
 
 // What a name stands for in the last frame that has it.
@@ -55,7 +70,7 @@ impl Names {
     ghost use Rattle.map_script.specs.declared.error.DrawError.TheVariants.{OutOfMemory};
     ghost use Rattle.map_script.specs.Known.{scope_of};
     ghost use Rattle.map_script.specs.Meant.{meant_by, meant_in, numbered, worded};
-    ghost use Rattle.map_script.specs.Scopes.{first_scope, left, mark_of, released, visible, with_given, with_block, with_held, with_let, with_shape, with_turn_name};
+    ghost use Rattle.map_script.specs.Scopes.{first_scope, left, mark_of, released, visible, with_answer, with_given, with_block, with_held, with_let, with_shape, with_turn_name};
 
     /// Without any name. It allocates no memory.
     pub fn new(alloc: Global) -> Self
@@ -66,6 +81,7 @@ impl Names {
             outer: Vec::new(alloc),
             placing: UNPLACED,
             is_within: false,
+            answered: None,
         }
     }
 
@@ -138,7 +154,22 @@ impl Names {
         self.hold(alloc, name, digits.as_bytes())
     }
 
-    /// How many names blocks hold, how many shapes are being drawn, how lines are placed, and whether a block is open.
+    /// A command has answered a number.
+    pub fn put_answer(&mut self, answer: u32)
+        ensures { scope_of self.new ≡ with_answer (scope_of self.old) answer }
+    {
+        self.answered = Some(answer);
+    }
+
+    /// The number that the script, or the shape that is being drawn, answered last.
+    pub fn answered(&self) -> Option<u32>
+        ensures { result ≡ (scope_of self.now).answered }
+    {
+        self.answered
+    }
+
+    /// How many names blocks hold, how many shapes are being drawn, how lines are placed, whether a block is open, and
+    /// the last answer.
     pub fn mark(&self) -> Mark
         ensures { result ≡ mark_of (scope_of self.now) }
     {
@@ -147,6 +178,7 @@ impl Names {
             shapes: self.outer.len(),
             placing: self.placing,
             is_within: self.is_within,
+            answered: self.answered,
         }
     }
 
@@ -163,7 +195,7 @@ impl Names {
     }
 
     /// Ends the innermost block, which began at a mark: lets go of the names of its shape, if it is one's, and of the
-    /// newest held names, but for as many as at the mark. All else is as there.
+    /// newest held names, but for as many as at the mark. All else is as there, but for an answer since then.
     pub fn release(&mut self, mark: Mark)
         ensures { scope_of self.new ≡ released (scope_of self.old) mark }
     {
@@ -171,6 +203,7 @@ impl Names {
         self.own.release(mark.held);
         self.placing = mark.placing;
         self.is_within = mark.is_within;
+        self.answered = later_of(self.answered, mark.answered);
     }
 
     /// How lines are placed.
@@ -188,7 +221,7 @@ impl Names {
         self.is_within = true;
     }
 
-    /// The drawing of a shape begins, which has no name of its own yet.
+    /// The drawing of a shape begins, which has no name of its own yet and has answered nothing.
     ///
     /// # Errors
     ///
@@ -201,7 +234,10 @@ impl Names {
         self.outer.reserve(1)?;
         let outer = std::mem::replace(&mut self.own, Frame::new(alloc));
         match self.outer.push(outer) {
-            Ok(()) => Ok(()),
+            Ok(()) => {
+                self.answered = None;
+                Ok(())
+            }
             Err(_) => unreachable!(),
         }
     }

@@ -24,8 +24,8 @@ use std::alloc::Global;
 // One more than how deep signs and parentheses of a sum may nest.
 const DEPTH: u32 = 65;
 
-// The name that a line defines, if any, and its command.
-fn parted(line: &[u8]) -> (Option<&[u8]>, &[u8])
+/// The name that a line defines, if any, and its command.
+pub fn parted(line: &[u8]) -> (Option<&[u8]>, &[u8])
     ensures name { option_copied result.0 ≡ name_in (text_words line.now) }
     ensures command { text_words result.1.now ≡ command_words (text_words line.now) }
 {
@@ -49,8 +49,15 @@ pub fn defined_name(line: &[u8]) -> Option<&[u8]>
     parted(line).0
 }
 
-// Whether there is no word, or it is a name.
-fn has_good_name(name: Option<&[u8]>) -> bool
+/// The command that stands behind the name that a line defines, or else the line.
+pub fn command_of(line: &[u8]) -> &[u8]
+    ensures { text_words result.now ≡ command_words (text_words line.now) }
+{
+    parted(line).1
+}
+
+/// Whether there is no word, or it is a name.
+pub fn has_good_name(name: Option<&[u8]>) -> bool
     ensures { result ≡ has_good_name (option_copied name.entry) }
 {
     match name {

@@ -1,15 +1,18 @@
 -- Where a script has been read to, as a position of its lines.
 use Rattle.std.proofs.Common.{◌≡◌, ◌⊎◌, inl, inr, ℕ, ℤ, pos, ◌+◌, ◌-◌, ◌<◌, ◌≤◌, ◌^◌, Bool, true, false, cond, List, [], ◌∷◌, ◌++◌, length, refl, ap, ap₂, sym, subst, ◌∙◌, arith, Option, Some, None, Result, Ok, Err}
-use Rattle.std.specs.Prelude.{All, int_le}
+use Rattle.std.specs.Prelude.{All, MatchResult, int_le}
 use Rattle.std.proofs.lemmas.List.{map-append}
 use Rattle.std.proofs.lemmas.List.Elements.{All-push}
+use Rattle.map_tables.specs.Tables.{Tables}
+use Rattle.map_script.specs.Errors.{code_of}
 use Rattle.map_script.specs.Scopes.{Scope, mark_of, released, with_block}
 use Rattle.map_script.specs.declared.error.DrawError.{DrawError}
+use Rattle.map_script.specs.declared.error.DrawError.TheVariants.{OutOfMemory}
 use Rattle.map_script.specs.declared.looping.Range.{Range}
 use Rattle.map_script.specs.declared.placing.Placing.{Placing}
 use Rattle.run_script.specs.Blocks.{behind_block, lines_between, block_len, block_lines}
-use Rattle.run_script.specs.Turns.{Counting, EndsTurn, OpensBlock, Position, Turn, after_at, after_count, after_loop, after_turn, counted_names, first_count, in_turn, next_count, turn_at}
-use Rattle.run_script.specs.Places.{Enters, IsBlockWithin, IsNextBlock, IsWithinLines, counting_of, position_of, turn_of, turns_of}
+use Rattle.run_script.specs.Turns.{Counting, EndsTurn, OpensBlock, Position, Turn, after_at, after_count, after_loop, after_names, after_turn, counted_names, first_count, in_turn, next_count, turn_at, with_naming}
+use Rattle.run_script.specs.Places.{Enters, IsBlockWithin, IsNextBlock, IsWithinLines, counting_of, naming_in, position_of, turn_of, turns_of}
 use Rattle.run_script.specs.declared.reading.Block.{Block}
 use Rattle.run_script.specs.declared.reading.Count.{Count}
 use Rattle.run_script.specs.declared.reading.Reading.{Reading}
@@ -49,6 +52,7 @@ next_block all close len names count r b f is within at =
     λ i. record {
       place = f.place i;
       count = f.count i;
+      naming = f.naming i;
       body = body i;
       behind = behind i;
       before = f.before i;
@@ -78,47 +82,78 @@ at_met names place lines turns outcome placing p is same =
 
 -- ---- The end of a turn
 
+at_end : (outcome : Result Position DrawError) (p q : Position) → outcome ≡ Ok q → p ≡ q
+    → MatchResult outcome (λ at. (◌≡◌ {A = Option ℕ} None None) × (p ≡ at)) (λ fault. ◌≡◌ {A = Option ℕ} None (Some (code_of fault)))
+at_end outcome p q is same = rw is (refl, same)
+
+refused : (outcome : Result Position DrawError) (p : Position) (e : DrawError) → outcome ≡ Err e
+    → MatchResult outcome (λ at. (◌≡◌ {A = Option ℕ} (Some (code_of e)) None) × (p ≡ at)) (λ fault. ◌≡◌ {A = Option ℕ} (Some (code_of e)) (Some (code_of fault)))
+refused outcome p e is = rw is refl
+
+-- a turn ended, and the names of its line hold
+ended : (all : List (ℕ × (ℕ × List ℕ))) (names mid : Scope) (m : Tables) (bs outer : List Block) (b : Block) (p : Position) → bs ≡ outer ++ b ∷ []
+    → with_naming (released names b.before) m names.answered (naming_in b.naming) ≡ Ok mid
+    → p ≡ after_count mid (turns_of all outer) (turn_of all b) (next_count (counting_of b.count)) → EndsTurn names m (turns_of all bs) None p
+ended all names mid m bs outer b p split named same =
+    let turns = turns_of all outer in
+    let t : Turn = turn_of all b in (
+      turns,
+      t,
+      turns_more all bs outer b split,
+      inl (at_end (after_turn names m turns t) p (after_count mid turns t (next_count t.count)) (ap (after_names turns t) named) same),
+    )
+
+-- its line's name got its numbers behind the turn
+pub given_from : (s names : Scope) (t m : Tables) (last : Option ℕ) (b : Block) (outcome : Result Scope DrawError) → s ≡ released names b.before → t ≡ m → last ≡ names.answered
+    → with_naming s t last (naming_in b.naming) ≡ outcome → with_naming (released names b.before) m names.answered (naming_in b.naming) ≡ outcome
+given_from s names t m last b outcome is same answer given =
+    sym (ap₂ (λ (x : Scope) (y : Tables). with_naming x y last (naming_in b.naming)) is same
+    ∙ ap (λ (a : Option ℕ). with_naming (released names b.before) m a (naming_in b.naming)) answer) ∙ given
+
 -- a block whose turn ended is in the next one
-pub turned : (all : List (ℕ × (ℕ × List ℕ))) (names named : Scope) (bs outer : List Block) (b c : Block) (count : Count) (next : Option Counting) (r : Reading)
-    → bs ≡ outer ++ b ∷ [] → next ≡ next_count (counting_of b.count) → counting_of (Some count) ≡ next
+pub turned : (all : List (ℕ × (ℕ × List ℕ))) (names mid named : Scope) (m : Tables) (bs outer : List Block) (b c : Block) (count : Count) (next : Option Counting) (r : Reading)
+    → bs ≡ outer ++ b ∷ [] → with_naming (released names b.before) m names.answered (naming_in b.naming) ≡ Ok mid
+    → next ≡ next_count (counting_of b.count) → counting_of (Some count) ≡ next
     → turn_of all c ≡ record {
       place = b.place;
       count = counting_of (Some count);
+      naming = naming_in b.naming;
       body = lines_between all b.from b.end;
       behind = lines_between all b.next b.until;
       before = b.before;
     }
-    → Enters (released names b.before) b.before.placing outer c named r
-    → EndsTurn names (turns_of all bs) None (position_of all named r)
-turned all names named bs outer b c count next r split is some same e =
-    let turns = turns_of all outer in
-    let t : Turn = turn_of all b in (
-      turns,
-      t,
-      turns_more all bs outer b split,
-      inl (
-        refl,
-        entered all (released names b.before) named b.before.placing outer c r _ e same ∙ ap (after_count (released names t.before) turns t) (some ∙ is),
-      ),
-    )
+    → Enters mid mid.placing outer c named r
+    → EndsTurn names m (turns_of all bs) None (position_of all named r)
+turned all names mid named m bs outer b c count next r split given is some same e =
+    ended all names mid m bs outer b (position_of all named r) split given
+    (entered all mid named mid.placing outer c r _ e same ∙ ap (after_count mid (turns_of all outer) (turn_of all b)) (some ∙ is))
 
 -- or it is left
-pub left : (all : List (ℕ × (ℕ × List ℕ))) (names : Scope) (bs outer : List Block) (b : Block) → bs ≡ outer ++ b ∷ []
-    → None ≡ next_count (counting_of b.count)
-    → EndsTurn names (turns_of all bs) None (record { names = released names b.before; lines = lines_between all b.next b.until; turns = turns_of all outer })
-left all names bs outer b split none =
+pub left : (all : List (ℕ × (ℕ × List ℕ))) (names mid : Scope) (m : Tables) (bs outer : List Block) (b : Block) → bs ≡ outer ++ b ∷ []
+    → with_naming (released names b.before) m names.answered (naming_in b.naming) ≡ Ok mid → None ≡ next_count (counting_of b.count)
+    → EndsTurn names m (turns_of all bs) None (record { names = mid; lines = lines_between all b.next b.until; turns = turns_of all outer })
+left all names mid m bs outer b split given none =
+    ended all names mid m bs outer b (record { names = mid; lines = lines_between all b.next b.until; turns = turns_of all outer }) split given
+    (ap (after_count mid (turns_of all outer) (turn_of all b)) none)
+
+-- there was no memory for the next one
+pub not-turned : (all : List (ℕ × (ℕ × List ℕ))) (names : Scope) (m : Tables) (bs outer : List Block) (b : Block) (code : ℕ) (p : Position) → bs ≡ outer ++ b ∷ [] → code ≡ 31
+    → EndsTurn names m (turns_of all bs) (Some code) p
+not-turned all names m bs outer b code p split is = (turns_of all outer, turn_of all b, turns_more all bs outer b split, inr (ap Some is))
+
+-- or the shape can't be named
+pub not-named : (all : List (ℕ × (ℕ × List ℕ))) (names : Scope) (m : Tables) (bs outer : List Block) (b : Block) (e : DrawError) (p : Position) → bs ≡ outer ++ b ∷ []
+    → (e ≡ OutOfMemory) ⊎ (with_naming (released names b.before) m names.answered (naming_in b.naming) ≡ Err e)
+    → EndsTurn names m (turns_of all bs) (Some (code_of e)) p
+not-named all names m bs outer b e p split (inl memory) = not-turned all names m bs outer b (code_of e) p split (ap code_of memory)
+not-named all names m bs outer b e p split (inr is) =
     let turns = turns_of all outer in
     let t : Turn = turn_of all b in (
       turns,
       t,
       turns_more all bs outer b split,
-      inl (refl, ap (after_count (released names t.before) turns t) none),
+      inl (refused (after_turn names m turns t) p e (ap (after_names turns t) is)),
     )
-
--- there was no memory for the next one
-pub not-turned : (all : List (ℕ × (ℕ × List ℕ))) (names : Scope) (bs outer : List Block) (b : Block) (code : ℕ) (p : Position) → bs ≡ outer ++ b ∷ [] → code ≡ 31
-    → EndsTurn names (turns_of all bs) (Some code) p
-not-turned all names bs outer b code p split is = (turns_of all outer, turn_of all b, turns_more all bs outer b split, inr (ap Some is))
 
 -- a block that was entered stands within the lines, as those around it
 pub entered_within : (count : ℕ) → count < 2 ^ 63 → (names named : Scope) (placing : Placing) (outer : List Block) (b : Block) (r : Reading) → Enters names placing outer b named r → All (IsBlockWithin count) outer

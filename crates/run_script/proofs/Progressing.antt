@@ -1,12 +1,13 @@
 -- A script that is drawn line by line, and turn by turn.
 use Rattle.std.proofs.Common.{◌≡◌, ◌⊎◌, inl, inr, ℕ, ◌+◌, ◌<◌, ◌≤◌, ◌^◌, Bool, List, [], ◌∷◌, ◌++◌, length, refl, ap, ap₂, sym, subst, ◌∙◌, arith, Option, Some, None, Result, Ok, Err}
-use Rattle.std.specs.Prelude.{All, drop, slice_get, IfNone, IfOk, MatchOption, MatchResult, suc, zero}
+use Rattle.std.specs.Prelude.{All, slice_get, IfNone, IfOk, MatchOption, MatchResult, suc, zero}
 use Rattle.std.proofs.lemmas.List.Elements.{All-nil}
 use Rattle.map_tables.specs.Projects.{current_map}
 use Rattle.map_tables.specs.Tables.{Tables}
 use Rattle.map_script.specs.Ats.{at_placing, at_words}
 use Rattle.map_script.specs.Defines.{call_words, define_fault, define_words}
 use Rattle.map_script.specs.Known.{scope_of}
+use Rattle.map_script.specs.Lines.{name_in}
 use Rattle.map_script.specs.Loops.{loop_range, loop_words}
 use Rattle.map_script.specs.Scopes.{Scope, first_scope}
 use Rattle.map_script.specs.declared.error.DrawError.{DrawError}
@@ -16,7 +17,7 @@ use Rattle.run_script.specs.Blocks.{lines_between, with_places}
 use Rattle.run_script.specs.Defined.{Shape, shape_called}
 use Rattle.run_script.specs.Drawn.{Advances, AdvancesOver, ComesTo, DrawsNext, Progress, Steps, at_first, at_position, opened_by}
 use Rattle.run_script.specs.Lines.{DrawsLine, Sketch, sketch_of}
-use Rattle.run_script.specs.Turns.{EndsTurn, OpensBlock, Position, Turn, after_at, after_drawing, after_define, after_loop, after_naming, after_opening, after_words}
+use Rattle.run_script.specs.Turns.{EndsTurn, OpensBlock, Position, Turn, after_at, after_drawing, after_define, after_loop, after_naming, after_opening, after_words, line_naming}
 use Rattle.run_script.specs.Places.{AdvancesTo, IsBlockWithin, IsFirstReading, IsWithinLines, position_of, progress_of, turns_of}
 use Rattle.run_script.specs.declared.canvas.Canvas.{Ghosts}
 use Rattle.run_script.specs.declared.error.ScriptError.{ScriptError}
@@ -86,7 +87,7 @@ by_define names m shapes place lines turns ws words none neither is =
 
 pub by_shape : (names : Scope) (m : Tables) (shapes : List Shape) (place : ℕ) (lines : List (ℕ × (ℕ × List ℕ))) (turns : List Turn) (ws : List (List ℕ)) (shape : Shape)
     → loop_words ws ≡ None → at_words ws ≡ None → define_words ws ≡ None → shape_called shapes place ws ≡ Some shape
-    → after_opening names m shapes place lines turns ws ≡ Some (after_drawing names place lines turns shape (call_words names m shape.parameters (drop 1 ws)))
+    → after_opening names m shapes place lines turns ws ≡ Some (after_drawing names place lines turns (line_naming m (name_in ws)) shape (call_words names m shape.parameters ws))
 by_shape names m shapes place lines turns ws shape none neither not is =
     by_naming names m shapes place lines turns ws none neither
     ∙ ap₂ (λ (o : Option (List (List ℕ))) (s : Option Shape). after_naming names m place lines turns ws o s) not is

@@ -1,9 +1,8 @@
 -- The shapes that a script defines, and which of them a line draws (docs/COMMANDS.md, "Shapes that a
 -- script defines").
 use Rattle.std.specs.Prelude.{ℕ, Bool, ◌+◌, ◌&&◌, nat_lt, if◌then◌else◌, List, [], ◌∷◌, drop, Option, Some, None, bytes_eq}
-use Rattle.std.specs.Option.{is_none}
 use Rattle.map_script.specs.Defines.{define_words}
-use Rattle.map_script.specs.Lines.{name_in}
+use Rattle.map_script.specs.Lines.{command_words}
 use Rattle.map_script.specs.Words.{first_word, text_words}
 use Rattle.run_script.specs.Blocks.{block_len, block_lines}
 
@@ -46,7 +45,6 @@ shape_known [] place name = None
 shape_known (s ∷ ss) place name =
     or_this (nat_lt s.end place && bytes_eq s.name name) s (shape_known ss place name)
 
--- the shape that a line at a place draws, if its first word is the name of one: it gives no name
+-- the shape that a line at a place draws, if the first word of its command is the name of one
 abbrev pub shape_called : List Shape → ℕ → List (List ℕ) → Option Shape
-shape_called shapes place words =
-    if is_none (name_in words) then shape_known shapes place (first_word words) else None
+shape_called shapes place words = shape_known shapes place (first_word (command_words words))

@@ -48,10 +48,10 @@ opened_by facts shapes l ls old =
 -- the same where these lines are to come in the turn: the first of them, which may open a block, or
 -- else its end
 abbrev pub AdvancesOver : {S : Type 0} → Ghosts S → Bool → List Shape
-    → List (ℕ × (ℕ × List ℕ)) → Progress S
-    → Option ℕ → Progress S → Type 0
+    → List (ℕ × (ℕ × List ℕ)) → Progress S → Option ℕ → Progress S → Type 0
 AdvancesOver facts verbose shapes [] old refusal new =
-    (at : Position) × EndsTurn old.sketch.names old.turns refusal at
+    (at : Position) × EndsTurn old.sketch.names (current_map (facts.maps_in old.sketch.canvas))
+    old.turns refusal at
     × (new ≡ at_position old.sketch at)
 AdvancesOver facts verbose shapes (l ∷ ls) old refusal new =
     MatchOption (opened_by facts shapes l ls old) (DrawsNext facts verbose l.1 ls old refusal new)

@@ -7,7 +7,7 @@ use Rattle.map_script.specs.Errors.{code_of}
 use Rattle.map_script.specs.Firsts.{firsts_of}
 use Rattle.map_script.specs.Lines.{names_after}
 use Rattle.map_script.specs.Meant.{numbered}
-use Rattle.map_script.specs.Scopes.{Scope, with_given}
+use Rattle.map_script.specs.Scopes.{Scope, with_answer, with_given}
 use Rattle.map_script.specs.declared.firsts.Firsts.{Firsts}
 use Rattle.map_script.specs.declared.firsts.Numbers.{Numbers}
 use Rattle.run_script.specs.declared.canvas.Canvas.{Ghosts}
@@ -18,10 +18,15 @@ AddsFirst text p firsts =
     (c : ProjectCommand) → InProjectRange c → text ≡ project_spelling c
     → firsts ≡ firsts_of c (current_map p)
 
--- the names, with the one that a line gives to its numbers
+-- the names, with the one that a line gives to its numbers, if it gives one
+abbrev pub with_line_name : Option (List ℕ) → Numbers → Scope → Scope
+with_line_name None numbers names = names
+with_line_name (Some name) numbers names = with_given names name (numbered numbers)
+
+-- the same behind the line, which answered
 abbrev pub with_given_name : Option (List ℕ) → Numbers → Scope → Scope
-with_given_name None numbers names = names
-with_given_name (Some name) numbers names = with_given names name (numbered numbers)
+with_given_name name numbers names =
+    with_line_name name numbers (with_answer names numbers.answer)
 
 -- `NUMBER: ok N`, if the answers to commands are written
 abbrev pub noted_text : Bool → ℕ → ℕ → List ℕ

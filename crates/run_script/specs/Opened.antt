@@ -1,6 +1,9 @@
 -- The blocks that are open, and where a script has come (docs/COMMANDS.md, "Scripts").
 use Rattle.std.specs.Prelude.{ℕ, ℤ, List, [], ◌∷◌, ◌++◌, Option, Some, None}
+use Rattle.map_tables.specs.Tables.{Tables}
+use Rattle.map_script.specs.Firsts.{counts_of}
 use Rattle.map_script.specs.Scopes.{Scope, with_block, with_turn_name}
+use Rattle.map_script.specs.declared.firsts.ItemCounts.{ItemCounts}
 use Rattle.map_script.specs.declared.names.Mark.{Mark}
 use Rattle.map_script.specs.declared.placing.Placing.{Placing}
 
@@ -10,11 +13,23 @@ pub record Counting : Type 0 where
   pub number : ℤ
   pub last : ℤ
 
--- an open block: the place of the line that opened it, what it counts if it is a loop's, its lines
--- and those behind it in the block around it, and what is as before when it ends
+-- the name of a line that draws a shape, and how many items the map had of each kind before
+pub record Naming : Type 0 where
+  pub name : List ℕ
+  pub before : ItemCounts
+
+-- the same of a line over a map, if it gives a name
+abbrev pub line_naming : Tables → Option (List ℕ) → Option Naming
+line_naming m None = None
+line_naming m (Some name) = Some (record { name = name; before = counts_of m })
+
+-- an open block: the place of the line that opened it, what it counts if it is a loop's, what names
+-- what it draws if it is a shape's, its lines and those behind it in the block around it, and what is
+-- as before when it ends
 pub record Turn : Type 0 where
   pub place : ℕ
   pub count : Option Counting
+  pub naming : Option Naming
   pub body : List (ℕ × (ℕ × List ℕ))
   pub behind : List (ℕ × (ℕ × List ℕ))
   pub before : Mark

@@ -7,12 +7,14 @@ use Rattle.run_script.specs.Blocks.{lines_between}
 use Rattle.run_script.specs.Defined.{Shape}
 use Rattle.run_script.specs.Drawn.{Advances, Progress}
 use Rattle.run_script.specs.Lines.{sketch_of}
+use Rattle.run_script.specs.Opened as spec
 use Rattle.run_script.specs.Turns.{Counting, Position, Turn, counted_names}
 use Rattle.run_script.specs.declared.canvas.Canvas.{Ghosts}
 use Rattle.run_script.specs.declared.error.ScriptError.{ScriptError}
 use Rattle.run_script.specs.declared.error.ScriptError.TheVariants.{OutOfMemory, WriterFailed}
 use Rattle.run_script.specs.declared.reading.Block.{Block}
 use Rattle.run_script.specs.declared.reading.Count.{Count}
+use Rattle.run_script.specs.declared.reading.Naming.{Naming}
 use Rattle.run_script.specs.declared.reading.Reading.{Reading}
 
 -- what a loop counts, if it is one
@@ -21,11 +23,17 @@ counting_of None = None
 counting_of (Some c) =
     Some (record { name = c.name.items; number = c.number; last = c.last })
 
+-- what names what a shape draws, if anything does
+abbrev pub naming_in : Option Naming → Option spec.Naming
+naming_in None = None
+naming_in (Some n) = Some (record { name = n.name.items; before = n.before })
+
 -- a block in its turn, among these lines
 abbrev pub turn_of : List (ℕ × (ℕ × List ℕ)) → Block → Turn
 turn_of lines b = record {
   place = b.place;
   count = counting_of b.count;
+  naming = naming_in b.naming;
   body = lines_between lines b.from b.end;
   behind = lines_between lines b.next b.until;
   before = b.before;
@@ -82,6 +90,7 @@ pub record IsNextBlock (close : ℕ) (mark : Mark) (counting : Option Counting) 
   pub until : b.until ≡ r.until
   pub before : b.before ≡ mark
   pub count : counting_of b.count ≡ counting
+  pub naming : naming_in b.naming ≡ None
 
 -- so many lines are to be read, and no block is open
 pub record IsFirstReading (count : ℕ) (r : Reading) : Type 0 where

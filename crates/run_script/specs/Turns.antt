@@ -6,14 +6,17 @@ use Rattle.map_script.specs.Ats.{at_placing, at_words}
 use Rattle.map_script.specs.Defines.{define_fault, define_words}
 use Rattle.map_script.specs.Errors.{code_of}
 use Rattle.map_script.specs.Loops.{loop_name, loop_range, loop_words}
-use Rattle.map_script.specs.Scopes.{Scope, mark_of, released}
+use Rattle.map_script.specs.Firsts.{firsts_since}
+use Rattle.map_script.specs.Meant.{numbered}
+use Rattle.map_script.specs.Scopes.{Scope, mark_of, released, with_given}
 use Rattle.map_script.specs.declared.error.DrawError.{DrawError}
+use Rattle.map_script.specs.declared.error.DrawError.TheVariants.{NothingAdded}
 use Rattle.map_script.specs.declared.looping.Range.{Range}
 use Rattle.map_script.specs.declared.placing.Placing.{Placing}
 use Rattle.run_script.specs.Blocks.{behind_block, block_lines}
 use Rattle.run_script.specs.Defined.{Shape, shape_called}
 pub use Rattle.run_script.specs.Calls.{after_define, after_drawing, after_shape, in_shape, turn_of_shape}
-pub use Rattle.run_script.specs.Opened.{Counting, Position, Turn, counted_names, in_turn}
+pub use Rattle.run_script.specs.Opened.{Counting, Naming, Position, Turn, counted_names, in_turn, line_naming}
 
 -- ---- The beginning of a block
 
@@ -22,6 +25,7 @@ abbrev pub turn_at : Scope → ℕ → List (ℕ × (ℕ × List ℕ)) → Optio
 turn_at names place lines count = record {
   place = place;
   count = count;
+  naming = None;
   body = block_lines lines;
   behind = behind_block lines;
   before = mark_of names;
@@ -104,17 +108,38 @@ after_count names turns t None = record { names = names; lines = t.behind; turns
 after_count names turns t (Some c) = in_turn names names.placing turns (record {
   place = t.place;
   count = Some c;
+  naming = t.naming;
   body = t.body;
   behind = t.behind;
   before = t.before;
 })
 
--- behind a turn, without the names that it held and without its placing
-abbrev pub after_turn : Scope → List Turn → Turn → Position
-after_turn names turns t = after_count (released names t.before) turns t (next_count t.count)
+-- a name stands for the last answer of the shape that it names, and for the first items that the map
+-- has gained; a shape that answered nothing can't be named
+abbrev pub named_by : Scope → Tables → Naming → Option ℕ → Result Scope DrawError
+named_by names m naming None = Err NothingAdded
+named_by names m naming (Some answer) = Ok (with_given names naming.name
+    (numbered (record { answer = answer; firsts = firsts_since naming.before m })))
 
--- the innermost turn ended, or there was no memory for the next one
-abbrev pub EndsTurn : Scope → List Turn → Option ℕ → Position → Type 0
-EndsTurn names turns refusal new =
+-- the same, if the shape is named
+abbrev pub with_naming : Scope → Tables → Option ℕ → Option Naming → Result Scope DrawError
+with_naming names m answered None = Ok names
+with_naming names m answered (Some naming) = named_by names m naming answered
+
+-- behind a turn with these names, or what is wrong with its name
+abbrev pub after_names : List Turn → Turn → Result Scope DrawError → Result Position DrawError
+after_names turns t (Err e) = Err e
+after_names turns t (Ok names) = Ok (after_count names turns t (next_count t.count))
+
+-- behind a turn, without the names that it held and without its placing
+abbrev pub after_turn : Scope → Tables → List Turn → Turn → Result Position DrawError
+after_turn names m turns t =
+    after_names turns t (with_naming (released names t.before) m names.answered t.naming)
+
+-- the innermost turn ended, or its shape can't be named, or memory ran out
+abbrev pub EndsTurn : Scope → Tables → List Turn → Option ℕ → Position → Type 0
+EndsTurn names m turns refusal new =
     (outer : List Turn) × (turn : Turn) × (turns ≡ outer ++ turn ∷ [])
-    × (((refusal ≡ None) × (new ≡ after_turn names outer turn)) ⊎ (refusal ≡ Some 31))
+    × (MatchResult (after_turn names m outer turn) (λ at. (refusal ≡ None) × (new ≡ at))
+    (λ fault. refusal ≡ Some (code_of fault))
+    ⊎ (refusal ≡ Some 31))

@@ -38,7 +38,7 @@ fn added_by(maps: &Maps, text: &[u8]) -> Firsts
     }
 }
 
-// Keeps the numbers of a command under the name that its line gives, if it gives one.
+// Keeps the answer of a command, and its numbers under the name that its line gives, if it gives one.
 fn keep_name(
     alloc: Global,
     names: &mut Names,
@@ -49,6 +49,7 @@ fn keep_name(
         ≡ with_given_name (option_copied name.entry) numbers (scope_of names.old)) }
     ensures refused { IfErr result (λ e. e ≡ OutOfMemory) }
 {
+    names.put_answer(numbers.answer);
     match name {
         Some(name) => match names.define(alloc, name, numbers) {
             Ok(()) => Ok(()),

@@ -8,7 +8,7 @@ ghost use Rattle.run_script.specs.Defined.{shape_at, shape_called, shape_known, 
 ghost use Rattle.run_script.specs.ShapePlaces.{AreShapesWithin, IsShapeWithin, shape_among, shapes_among};
 
 use crate::blocks::block_len;
-use map_script::{DrawError, ScriptLines, define_words, defined_name, first_word};
+use map_script::{DrawError, ScriptLines, command_of, define_words, first_word};
 use std::alloc::Global;
 
 /// A shape that a script defines.
@@ -102,7 +102,7 @@ fn shape_known<'a>(shapes: &'a [Shape], place: usize, name: &[u8]) -> Option<&'a
     found
 }
 
-/// The shape that a line at a place draws, if its first word is the name of one.
+/// The shape that a line at a place draws, if the first word of its command is the name of one.
 pub fn shape_called<'a>(shapes: &'a [Shape], place: usize, line: &[u8]) -> Option<&'a Shape>
     ensures called { (all : List (ℕ × (ℕ × List ℕ)))
         → option_map (shape_among all) (option_copied result)
@@ -110,8 +110,5 @@ pub fn shape_called<'a>(shapes: &'a [Shape], place: usize, line: &[u8]) -> Optio
     ensures within { (count : ℕ) → AreShapesWithin count shapes.now
         → IfSome result (λ shape. IsShapeWithin count shape.now) }
 {
-    if defined_name(line).is_some() {
-        return None;
-    }
-    shape_known(shapes, place, first_word(line).0)
+    shape_known(shapes, place, first_word(command_of(line)).0)
 }

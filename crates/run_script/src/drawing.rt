@@ -113,7 +113,7 @@ fn advance<C: Canvas, W: Write>(
             alloc, canvas, names, lines, shapes, reading, is_verbose, writer,
         )
     } else {
-        Ok(end_turn(alloc, names, lines, reading))
+        Ok(end_turn(alloc, canvas, names, lines, reading))
     }
 }
 

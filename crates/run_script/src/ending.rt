@@ -1,12 +1,16 @@
 //! The end of a block: its loop's next turn, or the lines behind it.
-ghost use Rattle.std.specs.Prelude.{◌≡◌, ◌<◌, IfNone, length, vec_len};
+ghost use Rattle.std.specs.Prelude.{◌≡◌, ◌⊎◌, ◌<◌, Err, IfErr, IfNone, IfOk, Ok, length, vec_len};
 ghost use Rattle.map_script.specs.Known.{scope_of};
+ghost use Rattle.map_script.specs.declared.error.DrawError.TheVariants.{OutOfMemory};
+ghost use Rattle.map_tables.specs.Projects.{current_map};
 ghost use Rattle.run_script.specs.Blocks.{with_places};
-ghost use Rattle.run_script.specs.Places.{IsWithinLines, counting_of, position_of, turns_of};
-ghost use Rattle.run_script.specs.Turns.{EndsTurn, next_count};
+ghost use Rattle.run_script.specs.Places.{IsWithinLines, counting_of, naming_in, position_of, turns_of};
+ghost use Rattle.run_script.specs.Turns.{EndsTurn, next_count, with_naming};
 
-use crate::reading::{Block, Count, Reading, enter};
-use map_script::{Names, ScriptLines};
+use crate::canvas::Canvas;
+use crate::reading::{Block, Count, Naming, Reading, enter};
+use map_script::{DrawError, Names, Numbers, ScriptLines, firsts_since};
+use map_tables::Map;
 use std::alloc::Global;
 
 // What is counted next, if there is a next turn.
@@ -23,9 +27,37 @@ fn next_count(count: Option<Count>) -> Option<Count>
     }
 }
 
-/// Ends the innermost turn: begins the next one, or goes behind the block. Returns the code of a refusal.
-pub fn end_turn(
+// Gives the name of a line that drew a shape its numbers: what the shape answered last, and the first items that the
+// map has gained.
+fn give_name(
     alloc: Global,
+    map: &Map,
+    names: &mut Names,
+    answered: Option<u32>,
+    naming: &Option<Naming>,
+) -> Result<(), DrawError>
+    ensures ok { IfOk result (λ _.
+        with_naming (scope_of names.old) map.now.tables answered (naming_in naming.now)
+        ≡ Ok (scope_of names.new)) }
+    ensures fault { IfErr result (λ e. (e ≡ OutOfMemory)
+        ⊎ (with_naming (scope_of names.old) map.now.tables answered (naming_in naming.now)
+        ≡ Err e)) }
+{
+    let Some(naming) = naming else {
+        return Ok(());
+    };
+    let Some(answer) = answered else {
+        return Err(DrawError::NothingAdded);
+    };
+    let firsts = firsts_since(&naming.before, map);
+    names.define(alloc, &naming.name, Numbers { answer, firsts })
+}
+
+/// Ends the innermost turn: begins the next one, or goes behind the block, and gives the name of a line that drew a
+/// shape its numbers. Returns the code of a refusal.
+pub fn end_turn<C: Canvas>(
+    alloc: Global,
+    canvas: &C,
     names: &mut Names,
     lines: &ScriptLines,
     reading: &mut Reading,
@@ -33,14 +65,26 @@ pub fn end_turn(
     requires within { IsWithinLines (length lines.now) reading.old }
     requires some { 0 < vec_len reading.old.blocks }
     ensures ended { let all = with_places lines.now in
-        EndsTurn (scope_of names.old) (turns_of all reading.old.blocks.items) result
+        EndsTurn (scope_of names.old) (current_map (C.Canvas.maps_in canvas.now))
+        (turns_of all reading.old.blocks.items) result
         (position_of all (scope_of names.new) reading.new) }
     ensures within { IfNone result (IsWithinLines (length lines.now) reading.new) }
 {
     let Some(block) = reading.blocks.pop() else {
         return None;
     };
+    let answered = names.answered();
     names.release(block.before);
+    match give_name(
+        alloc,
+        canvas.maps().current(),
+        names,
+        answered,
+        &block.naming,
+    ) {
+        Ok(()) => {}
+        Err(error) => return Some(error.code()),
+    }
     let Some(count) = next_count(block.count) else {
         reading.place = block.next;
         reading.until = block.until;
@@ -54,6 +98,7 @@ pub fn end_turn(
         until: block.until,
         before: block.before,
         count: Some(count),
+        naming: block.naming,
     };
     let placing = names.placing();
     match enter(alloc, names, reading, next, placing) {

@@ -4,6 +4,7 @@
 mod asking;
 mod block_reasons;
 mod blocks;
+mod call_reasons;
 mod calling;
 mod canvas;
 mod changing;

@@ -45,6 +45,7 @@ fn open_next(
         until: reading.until,
         before: names.mark(),
         count,
+        naming: None,
     };
     enter(alloc, names, reading, block, placing)
 }

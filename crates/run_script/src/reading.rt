@@ -7,7 +7,7 @@ ghost use Rattle.run_script.specs.Drawn.{IsAtPlace};
 ghost use Rattle.run_script.specs.Places.{Enters, IsWithinLines, counting_of, turns_of};
 ghost use Rattle.run_script.specs.Turns.{counted_names};
 
-use map_script::{DrawError, Mark, Names, Placing, ScriptLines};
+use map_script::{DrawError, ItemCounts, Mark, Names, Placing, ScriptLines};
 use std::alloc::Global;
 
 /// What a loop counts.
@@ -19,6 +19,14 @@ pub struct Count {
     pub number: i64,
     /// That of the last turn.
     pub last: i64,
+}
+
+/// The name of a line that draws a shape.
+#[derive(Drop)]
+pub struct Naming {
+    pub name: Vec<u8>,
+    /// How many items the map had of each kind before.
+    pub before: ItemCounts,
 }
 
 /// A block that is open; that of a loop is in a turn.
@@ -38,6 +46,8 @@ pub struct Block {
     pub before: Mark,
     /// What it counts, if it is a loop's.
     pub count: Option<Count>,
+    /// What names what it draws, if it is a shape's.
+    pub naming: Option<Naming>,
 }
 
 /// How far a script has been read.

@@ -1,6 +1,10 @@
 //! Says what was wrong with a refused line.
+ghost use Rattle.std.specs.Prelude.{◌<◌, length};
+
 use crate::block_reasons::{reason_of_at, reason_of_define, reason_of_let, reason_of_loop};
+use crate::call_reasons::{called_at, reason_of_call};
 use crate::calling::says;
+use crate::drawing::Stop;
 use crate::forms::{count_words, first_word, form_near, form_of, range_at};
 use crate::particulars::{in_use, map_names, too_long};
 use crate::shape_reasons::{decide, meant_shape, places_of};
@@ -8,7 +12,8 @@ use crate::unfit::{form_meant, unfit};
 use lump_records::{Vertex, is_marker, is_name};
 use map_commands::{Command, ProjectCommand, RoomPlan, parse};
 use map_script::{
-    DrawError, Names, ScriptLine, at_words, define_words, let_words, loop_words, resolve,
+    DrawError, Names, ScriptLine, ScriptLines, at_words, define_words, let_words, loop_words,
+    resolve,
 };
 use map_shapes::{ShapeError, ShapeHead, shape_head_in};
 use map_tables::{Edit, Item, Kind, Map, Maps};
@@ -44,7 +49,7 @@ fn meant(alloc: Global, text: &str) -> Result<String, AllocError> {
         None => match form_meant(first).or(form_near(first)) {
             Some(form) => format!(in alloc; "perhaps this is meant: {form}"),
             None => format!(in alloc;
-                "no command and no query begins with {first}, and no shape that has so many words"
+                "no command, no query and no shape known here begins with {first}"
             ),
         },
     }
@@ -315,8 +320,26 @@ pub fn reason_of_reference(
     }
 }
 
-/// Says what was wrong with a line of a script, given the maps as they are and the names of the earlier lines.
+/// Says what was wrong with the line of a script at which it stopped, given the maps as they are and the names of the
+/// earlier lines.
 pub fn reason_of(
+    alloc: Global,
+    maps: &Maps,
+    names: &Names,
+    lines: &ScriptLines,
+    stop: Stop,
+) -> Result<String, AllocError>
+    requires { stop.place < length lines.now }
+{
+    let line = lines.line(stop.place);
+    match called_at(alloc, lines, stop.place)? {
+        Some(form) => reason_of_call(alloc, maps.current(), names, &form, line.text, stop.code),
+        None => reason_of_line(alloc, maps, names, &line, stop.code),
+    }
+}
+
+// Says what was wrong with a line that draws no shape of the script.
+fn reason_of_line(
     alloc: Global,
     maps: &Maps,
     names: &Names,

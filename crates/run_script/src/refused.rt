@@ -1,14 +1,15 @@
 //! Writes the two lines that say which line of a script was refused, and what was wrong with it.
-ghost use Rattle.std.specs.Prelude.{◌≡◌, ◌++◌, MatchResult};
+ghost use Rattle.std.specs.Prelude.{◌≡◌, ◌++◌, ◌<◌, ℕ, List, MatchResult, Some, length, slice_get};
 ghost use Rattle.std.specs.Io.KnownBytes.{Appends};
 ghost use Rattle.map_script.specs.Views.{seen};
 ghost use Rattle.run_script.specs.Refused.{TellsStop, line_place, refusal_text};
 ghost use Rattle.run_script.specs.declared.error.ScriptError.TheVariants.{WriterFailed};
 
 use crate::calling::stop_name;
+use crate::drawing::Stop;
 use crate::error::ScriptError;
 use crate::reasons::reason_of;
-use map_script::{Names, ScriptLine};
+use map_script::{Names, ScriptLine, ScriptLines};
 use map_tables::Maps;
 use std::alloc::Global;
 use std::io::Write;
@@ -82,8 +83,8 @@ fn write_both<W: Write>(
     write_reason(code, name, reason, writer)
 }
 
-/// Writes which line of a script was refused, `SCRIPT:NUMBER: TEXT: CODE NAME`, and in a second line what was wrong,
-/// given the maps as they are and the names of the earlier lines.
+/// Writes which of the lines of a script was refused, `SCRIPT:NUMBER: TEXT: CODE NAME`, and in a second line what was
+/// wrong, given the maps as they are and the names of the earlier lines. `script` is its name.
 ///
 /// # Errors
 ///
@@ -92,16 +93,20 @@ pub fn write_refused<W: Write>(
     alloc: Global,
     maps: &Maps,
     names: &Names,
+    lines: &ScriptLines,
     script: &str,
-    line: &ScriptLine<'_>,
-    code: u16,
+    stop: Stop,
     writer: &mut W,
 ) -> Result<(), ScriptError>
-    ensures { TellsStop result script.now (seen line.now) code
+    requires { stop.place < length lines.now }
+    ensures { (line : ℕ × List ℕ) → slice_get lines.now stop.place ≡ Some line
+        → TellsStop result script.now line stop.code
         (W.contents writer.old) (W.contents writer.new) }
 {
-    let Ok(reason) = reason_of(alloc, maps, names, line, code) else {
+    let line = lines.line(stop.place);
+    let Ok(reason) = reason_of(alloc, maps, names, lines, stop) else {
         return Err(ScriptError::OutOfMemory);
     };
-    write_both(script, line, code, stop_name(code), reason.as_str(), writer)
+    let name = stop_name(stop.code);
+    write_both(script, &line, stop.code, name, reason.as_str(), writer)
 }

@@ -18,14 +18,13 @@ fn draw_lines(
     let mut faults = Vec::new(alloc);
     let stop = draw(alloc, &mut draft, &mut names, lines, verbose, &mut out)?;
     if let Some(stop) = stop {
-        let line = lines.line(stop.place);
         write_refused(
             alloc,
             draft.maps(),
             &names,
+            lines,
             "level.txt",
-            &line,
-            stop.code,
+            stop,
             &mut faults,
         )?;
     }
@@ -99,11 +98,25 @@ const SCRIPTS: &[(&[u8], bool, &[u8], &[u8])] = &[
     (b"let x 5\ndefine a y\nlet x 7\nvertex $y $x\nend\na $x+1\nvertex 6 7", true, b"4: ok 0\n",
         b"level.txt:7: vertex 6 7: 10 PlaceTaken\n  vertex 0 stands at 6 7\n"),
     (b"let p 3 4\ndefine a X Y\nvertex $X $Y\nend\na $p\ndefine a\nvertex 1 1\nend\na\na $p", true,
-        b"3: ok 0\n7: ok 1\n", b"level.txt:10: a $p: 1 NotACommand\n  \
-        no command and no query begins with a, and no shape that has so many words\n"),
+        b"3: ok 0\n7: ok 1\n", b"level.txt:10: a $p: 1 NotACommand\n  it has 3 words in place of 1: a\n"),
+    (b"define column X Y H\nvertex $X $Y\nend\nc = column 1 2", true, b"",
+        b"level.txt:4: c = column 1 2: 1 NotACommand\n  it has 3 words in place of 4: column X Y H\n"),
+    (b"thing 0 0 0 1 7\ndefine pair X\nlet n 3\nthing $X 0 0 $n 7\nv = vertex $X 9\nend\nn = pair 8\n\
+        vertex $n+20 $n.vertex\nchange thing $n.thing ANGLE=90\nvertex $n.line 0", true,
+        b"1: ok 0\n4: ok 1\n5: ok 0\n8: ok 1\n9: ok 1\n",
+        b"level.txt:10: vertex $n.line 0: 23 NothingAdded\n  the command of this name added no such item\n"),
+    (b"define inner X\nvertex $X 0\nend\ndefine none\nlet x 1\nend\ndefine outer X\nvertex $X 1\np = inner $X+1\n\
+        thing $p 0 0 1 7\ninner $X+2\nnone\nend\nfor i 0 1\nq = outer 10*$i\nend\nvertex $q+50 $q.vertex\nvertex $p 0",
+        true, b"8: ok 0\n2: ok 1\n10: ok 0\n2: ok 2\n8: ok 3\n2: ok 4\n10: ok 1\n2: ok 5\n17: ok 6\n",
+        b"level.txt:18: vertex $p 0: 22 UnknownName\n  no line before has this name\n"),
+    (b"vertex 0 0\ndefine none\ncount\nend\nn = none", true,
+        b"1: ok 0\nvertices 1 sectors 0 sides 0 lines 0 things 0\n",
+        b"level.txt:5: n = none: 23 NothingAdded\n  the shape has no command that answers a number\n"),
+    (b"define post\nvertex 0 0\nend\n8 = post", true, b"",
+        b"level.txt:4: 8 = post: 20 NotAName\n  a name is a letter, then letters, digits and _\n"),
     (b"define one\ntwo\nend\ndefine two\nvertex 0 0\nend\ntwo\none", true, b"5: ok 0\n",
         b"level.txt:2: two: 1 NotACommand\n  \
-        no command and no query begins with two, and no shape that has so many words\n"),
+        no command, no query and no shape known here begins with two\n"),
     (b"vertex 0 0\nfor i 0 1\ndefine a\nend\nend", true, b"",
         b"level.txt:3: define a: 47 OpenBlock\n  \
         a block without its end, an end without a block, a define in a block, or blocks more than 64 deep\n"),
@@ -139,8 +152,7 @@ const REFUSED: &[(&[u8], &[u8])] = &[
     (b"drop wall 0", b"1 NotACommand\n  wall stands for KIND: vertex, sector, side, line or thing\n"),
     (b"linedef 0 1", b"1 NotACommand\n  perhaps this is meant: line V1 V2 FLAGS SPECIAL TAG RIGHT LEFT\n"),
     (b"frame = count", b"1 NotACommand\n  a query answers no number that a name could keep\n"),
-    (b"corner 0 0", b"1 NotACommand\n  no command and no query begins with corner, and no shape that has so \
-        many words\n"),
+    (b"corner 0 0", b"1 NotACommand\n  no command, no query and no shape known here begins with corner\n"),
     (b"thing 0 0 400 1 7", b"2 OutOfRange\n  400 stands for ANGLE, a number from 0 to 359\n"),
     (b"room 64 0 64 9 0 128 FLOOR4_8 CEIL3_5 STARTAN3 160",
         b"2 OutOfRange\n  X1 is to be less than X2, and Y1 less than Y2\n"),

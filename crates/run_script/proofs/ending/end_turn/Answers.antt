@@ -1,48 +1,72 @@
-use Rattle.std.proofs.Common.{◌≡◌, ◌∙◌, ◌+◌, ◌++◌, ◌∷◌, [], List, ℕ, Option, None, Some, ap, arith, length, refl, sym, subst}
+use Rattle.std.proofs.Common.{◌≡◌, ◌⊎◌, ◌∙◌, ◌+◌, ◌++◌, ◌∷◌, [], List, ℕ, Option, None, Some, Ok, Err, ap, arith, inl, inr, length, refl, sym, subst}
 use Rattle.std.proofs.lemmas.List.Elements.{All-pop}
 use Rattle.map_script.specs.Errors.{code_of}
 use Rattle.map_script.specs.Known.{scope_of}
-use Rattle.map_script.specs.Scopes.{Scope}
+use Rattle.map_script.specs.Scopes.{Scope, released}
+use Rattle.map_script.specs.declared.error.DrawError.{DrawError}
+use Rattle.map_script.specs.declared.error.DrawError.TheVariants.{OutOfMemory}
+use Rattle.map_tables.specs.Projects.{current_map}
+use Rattle.map_tables.specs.Tables.{Tables}
 use Rattle.run_script.specs.Blocks.{lines_between, with_places}
-use Rattle.run_script.specs.Turns.{EndsTurn}
-use Rattle.run_script.specs.Places.{Enters, IsBlockWithin, position_of, turns_of}
+use Rattle.run_script.specs.Turns.{EndsTurn, with_naming}
+use Rattle.run_script.specs.Places.{Enters, IsBlockWithin, naming_in, position_of, turns_of}
 use Rattle.run_script.specs.declared.reading.Block.{Block}
-use Rattle.run_script.proofs.Positions.{entered_within, enters_from, left, not-turned, turned}
+use Rattle.run_script.proofs.Currents.{current_is}
+use Rattle.run_script.proofs.Positions.{entered_within, enters_from, given_from, left, not-named, not-turned, turned}
 use Rattle.run_script.proofs.ending.end_turn.Goals as goal
 
-pub returns-in_default-next_count-clause-ended : goal.returns-in_default-next_count-clause-ended
-returns-in_default-next_count-clause-ended c =
+pub returns-in-Err-clause-ended : goal.returns-in-Err-clause-ended
+returns-in-Err-clause-ended g c =
     let all : List (ℕ × (ℕ × List ℕ)) = with_places c.args.lines.now in
     let b : Block = c.in-Some.block in
-    let bs : List Block = c.args.reading.now.blocks.items in
-    let outer : List Block = c.pop.new.self.items in
-    subst (λ (named : Scope). EndsTurn (scope_of c.args.names.now) (turns_of all bs) None
-    (record { names = named; lines = lines_between all b.next b.until; turns = turns_of all outer })) (sym c.release.ensures)
-    (left all (scope_of c.args.names.now) bs outer b c.in-Some.ensures.items c.in_default-next_count.ensures)
+    let e : DrawError = c.in-Err.error in
+    let names : Scope = scope_of c.args.names.now in
+    let m : Tables = current_map (g.C.Canvas.maps_in c.args.canvas.now) in
+    let same = c.current.ensures.tables ∙ current_is c.maps.result.now ∙ ap current_map c.maps.ensures in
+    let why : (e ≡ OutOfMemory) ⊎ (with_naming (released names b.before) m names.answered (naming_in b.naming) ≡ Err e) =
+    elim c.in-Err.ensures.fault [
+      | inl memory ↦ inl memory
+      | inr is ↦ inr (given_from _ names _ m _ b (Err e) c.release.ensures same c.answered-answered.ensures is)
+    ] in
+    rw c.code.ensures (not-named all names m c.args.reading.now.blocks.items c.pop.new.self.items b e _ c.in-Some.ensures.items why)
+
+pub returns-in_default-next_count-clause-ended : goal.returns-in_default-next_count-clause-ended
+returns-in_default-next_count-clause-ended g c =
+    let all : List (ℕ × (ℕ × List ℕ)) = with_places c.args.lines.now in
+    let b : Block = c.in-Some.block in
+    let names : Scope = scope_of c.args.names.now in
+    let m : Tables = current_map (g.C.Canvas.maps_in c.args.canvas.now) in
+    let same = c.current.ensures.tables ∙ current_is c.maps.result.now ∙ ap current_map c.maps.ensures in
+    left all names (scope_of c.give_name.new.names) m c.args.reading.now.blocks.items c.pop.new.self.items b c.in-Some.ensures.items
+    (given_from _ names _ m _ b _ c.release.ensures same c.answered-answered.ensures c.in-Ok.ensures.ok) c.in_default-next_count.ensures
 
 pub returns-in_default-next_count-clause-within : goal.returns-in_default-next_count-clause-within
-returns-in_default-next_count-clause-within c =
+returns-in_default-next_count-clause-within g c =
     let (outer, b) = All-pop (IsBlockWithin (length c.args.lines.now)) c.args.reading.now.blocks.items c.pop.new.self.items (Some c.in-Some.block)
     c.in-Some.ensures.items c.requires.within.blocks in
     record { few = c.requires.within.few; until = b.until; blocks = outer }
 
-pub returns-in-Ok-clause-ended : goal.returns-in-Ok-clause-ended
-returns-in-Ok-clause-ended c =
+pub returns-in-Ok-enter-clause-ended : goal.returns-in-Ok-enter-clause-ended
+returns-in-Ok-enter-clause-ended g c =
     let all : List (ℕ × (ℕ × List ℕ)) = with_places c.args.lines.now in
     let b : Block = c.in-Some.block in
-    let outer : List Block = c.pop.new.self.items in
-    turned all (scope_of c.args.names.now) (scope_of c.enter.new.names) c.args.reading.now.blocks.items outer b _ c.in-Some-next_count.count _ c.enter.new.reading
-    c.in-Some.ensures.items refl c.in-Some-next_count.ensures refl
-    (enters_from _ _ _ _ _ _ _ c.release.ensures c.placing-placing.ensures c.in-Ok.ensures.ok)
+    let names : Scope = scope_of c.args.names.now in
+    let mid : Scope = scope_of c.give_name.new.names in
+    let m : Tables = current_map (g.C.Canvas.maps_in c.args.canvas.now) in
+    let same = c.current.ensures.tables ∙ current_is c.maps.result.now ∙ ap current_map c.maps.ensures in
+    turned all names mid (scope_of c.enter.new.names) m c.args.reading.now.blocks.items c.pop.new.self.items b _ c.in-Some-next_count.count _ c.enter.new.reading
+    c.in-Some.ensures.items (given_from _ names _ m _ b _ c.release.ensures same c.answered-answered.ensures c.in-Ok.ensures.ok) refl c.in-Some-next_count.ensures refl
+    (enters_from mid mid _ _ _ _ _ refl c.placing-placing.ensures c.in-Ok-enter.ensures.ok)
 
-pub returns-in-Ok-clause-within : goal.returns-in-Ok-clause-within
-returns-in-Ok-clause-within c =
+pub returns-in-Ok-enter-clause-within : goal.returns-in-Ok-enter-clause-within
+returns-in-Ok-enter-clause-within g c =
     let (outer, b) = All-pop (IsBlockWithin (length c.args.lines.now)) c.args.reading.now.blocks.items c.pop.new.self.items (Some c.in-Some.block)
     c.in-Some.ensures.items c.requires.within.blocks in
-    entered_within (length c.args.lines.now) c.requires.within.few (scope_of c.release.new.self) (scope_of c.enter.new.names) _ c.pop.new.self.items _ c.enter.new.reading c.in-Ok.ensures.ok outer
+    entered_within (length c.args.lines.now) c.requires.within.few (scope_of c.give_name.new.names) (scope_of c.enter.new.names) _ c.pop.new.self.items _ c.enter.new.reading c.in-Ok-enter.ensures.ok outer
     (record { place = b.place; end = b.end; until = b.until })
 
-pub returns-in-Err-clause-ended : goal.returns-in-Err-clause-ended
-returns-in-Err-clause-ended c =
+pub returns-in-Err-enter-clause-ended : goal.returns-in-Err-enter-clause-ended
+returns-in-Err-enter-clause-ended g c =
     let all : List (ℕ × (ℕ × List ℕ)) = with_places c.args.lines.now in
-    not-turned all (scope_of c.args.names.now) c.args.reading.now.blocks.items c.pop.new.self.items c.in-Some.block c.code.result _ c.in-Some.ensures.items (c.code.ensures ∙ ap code_of c.in-Err.ensures.memory)
+    not-turned all (scope_of c.args.names.now) (current_map (g.C.Canvas.maps_in c.args.canvas.now)) c.args.reading.now.blocks.items c.pop.new.self.items c.in-Some.block c.code-in-Err-enter.result _ c.in-Some.ensures.items
+    (c.code-in-Err-enter.ensures ∙ ap code_of c.in-Err-enter.ensures.memory)

@@ -9,4 +9,4 @@ returns c =
     let long = frames_long names.outer.items [] in
     let held : c.len.result ≡ length names.own.held = c.len.ensures in
     let shapes : c.len-2.result ≡ length (layers_in_front names.outer.items []) = omega (arith, c.len-2.ensures, names.outer.ok.0, long) in
-    λ i. record { held = held i; shapes = shapes i; placing = names.placing; is_within = names.is_within }
+    λ i. record { held = held i; shapes = shapes i; placing = names.placing; is_within = names.is_within; answered = names.answered }
