@@ -1,5 +1,5 @@
 //! A run over a project file: the session of `edit`. The commands of a turn go to the disk together.
-ghost use Rattle.std.specs.Prelude.{◌≡◌, ◌≤◌, ℕ, List, [], IfOk, IfSome, is_ok, length, take};
+ghost use Rattle.std.specs.Prelude.{◌≡◌, ◌≤◌, ℕ, List, [], IfOk, IfSome, OnOk, is_ok, length, take};
 ghost use Rattle.std.specs.List.{list_any};
 ghost use Rattle.store_project.specs.Groups.{IsGroupFor};
 ghost use Rattle.run_edit.specs.Editing.{RepliesInProject, told_of};
@@ -78,6 +78,31 @@ fn settle_batch<D: Disk, W: Write>(
     }
 }
 
+// Puts and answers the lines that wait. It stands apart since a batch is large: where none waits, nothing is moved.
+#[inline(never)]
+fn settle_waiting<D: Disk, W: Write>(
+    project: &mut Project<D>,
+    waiting: &mut Option<Batch>,
+    writer: &mut W,
+) -> Result<(), EditorError>
+    requires { (lines : List (List ℕ)) × Waits project.old waiting.old lines }
+    ensures taken { (lines : List (List ℕ)) → Waits project.old waiting.old lines
+        → TakesLines (GoesOver D.Disk) none_waits result project.old project.new lines
+        (W.contents writer.old) (W.contents writer.new) }
+    ensures left { OnOk result (Waits project.new waiting.new []) }
+{
+    match waiting.take() {
+        Some(batch) => match settle_batch(project, batch, writer) {
+            Ok(left) => {
+                *waiting = left;
+                Ok(())
+            }
+            Err(error) => Err(error),
+        },
+        None => Ok(()),
+    }
+}
+
 // Answers a line at once. An empty group is kept only behind a query, which leaves the project as it is.
 fn answer_alone<D: Disk, W: Write>(
     alloc: Global,
@@ -96,7 +121,9 @@ fn answer_alone<D: Disk, W: Write>(
     if read_query(line).is_some() {
         return answer_line(alloc, project, line, writer);
     }
-    *waiting = None;
+    if waiting.is_some() {
+        *waiting = None;
+    }
     answer_line(alloc, project, line, writer)
 }
 
@@ -138,14 +165,8 @@ impl<D: Disk> Session for Project<D> {
         waiting: &mut Option<Batch>,
         writer: &mut W,
     ) -> Result<(), EditorError> {
-        match waiting.take() {
-            Some(batch) => match settle_batch(self, batch, writer) {
-                Ok(left) => {
-                    *waiting = left;
-                    Ok(())
-                }
-                Err(error) => Err(error),
-            },
+        match waiting {
+            Some(_) => settle_waiting(self, waiting, writer),
             None => Ok(()),
         }
     }

@@ -1,6 +1,8 @@
 pub mod Currents
 pub mod Defining
+pub mod DrawnCalls
 pub mod Grouped
+pub mod Keeping
 pub mod LineEnds
 pub mod Losing
 pub mod PlacedLines

@@ -16,5 +16,6 @@ pub mod PutLaws
 pub mod Refused
 pub mod Shaped
 pub mod ShapePlaces
+pub mod Stopped
 pub mod Turns
 pub mod Waiting

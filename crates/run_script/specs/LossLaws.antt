@@ -19,7 +19,7 @@ module _ {D : Type 0} (facts : Ghosts D) where
   pub none_lost : (d last : Drawing D) → d.group ≡ None → Loses facts d last → ⊥
   none_lost d last none lost = none_or_some d.group lost.some.0 none lost.some.1
 
-  no_group : (d : Drawing D) → d.group ≡ None → AreWaiting d []
+  pub no_group : (d : Drawing D) → d.group ≡ None → AreWaiting d []
   no_group d none = subst (λ (o : Option GroupState). MatchOption o (◌≡◌ {A = List Staged} [] [])
       (λ g. CanPut d.project g [])) (sym none) refl
 

@@ -70,7 +70,7 @@ module _ {D : Type 0} (facts : Ghosts D) where
       (λ g. (staged : List Staged) → CanPut old.project g staged
       → PutsGroup facts old.project staged (Ok tt) mid.project)) is settled.put staged can)
 
-  settled_same : (mid new : Drawing D) → mid.group ≡ None → Settles facts mid new
+  pub settled_same : (mid new : Drawing D) → mid.group ≡ None → Settles facts mid new
       → new.project ≡ mid.project
   settled_same mid new none settled =
       subst (λ (o : Option GroupState). MatchOption o (new.project ≡ mid.project)

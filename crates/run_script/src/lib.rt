@@ -24,6 +24,7 @@ mod refused;
 mod shape_lines;
 mod shape_reasons;
 mod shaping;
+mod stops;
 mod unfit;
 
 pub use canvas::Canvas;
@@ -32,3 +33,4 @@ pub use drawing::{Stop, draw};
 pub use error::ScriptError;
 pub use project_canvas::ProjectCanvas;
 pub use refused::write_refused;
+pub use stops::drawings_hold_acknowledged;

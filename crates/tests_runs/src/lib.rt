@@ -19,4 +19,6 @@ mod project_run;
 mod scripts;
 pub mod streams;
 #[cfg(test)]
+mod sweeping;
+#[cfg(test)]
 mod sweeps;

@@ -4,7 +4,7 @@ ghost use Rattle.store_project.specs.Groups.{IsGroupFor};
 use crate::expect::same;
 use crate::project::bytes_from;
 use crate::project_stops::{expect_counts, failing};
-use crate::small::{SMALL, created, empty_disk, vertices};
+use crate::small::{SMALL, created, empty_disk, found, vertices};
 use map_commands::CommandError;
 use std::alloc::Global;
 use std::process::Abort;
@@ -29,19 +29,20 @@ const LINES: &[Answer] = &[
 // What the accepted ones are in a journal.
 const RECORDS: &[u8] = b"\xa5\x0a\0\0\0vertex 0 0\xa5\x0a\0\0\0vertex 1 0\0";
 
-// Stages lines, and tests their answers. The project has none of them yet.
+// Stages lines, and tests their answers. The project has none of them yet, and so many vertices.
 fn expect_staged<D: Disk>(
     rt: &impl Abort,
     project: &Project<D>,
     group: &mut ProjectGroup,
     lines: &[Answer],
+    had: u32,
 )
     requires { IsGroupFor project.now group.old }
     ensures { IsGroupFor project.now group.new }
 {
     for &(line, wanted) in lines {
         let found = project.stage(group, line);
-        same(rt, &(line, found, vertices(project)), &(line, wanted, 0));
+        same(rt, &(line, found, vertices(project)), &(line, wanted, had));
     }
 }
 
@@ -51,9 +52,38 @@ fn put_lines<D: Disk>(
     project: &mut Project<D>,
 ) -> Result<(Result<(), ProjectError>, u32), ProjectError> {
     let mut group = project.begin_group()?;
-    expect_staged(rt, project, &mut group, LINES);
+    expect_staged(rt, project, &mut group, LINES, 0);
     let ended = project.put(group);
     Ok((ended, vertices(project)))
+}
+
+// Lines behind those.
+#[rattlefmt::skip]
+const MORE: &[Answer] = &[
+    (b"vertex 1 0", Err(PLACE_TAKEN)), (b"vertex 2 0", Ok(Some(2))), (b"drop vertex 0", Ok(Some(0))),
+];
+
+const PLACE_TAKEN: ProjectError = ProjectError::Refused(CommandError::PlaceTaken);
+
+// Puts the lines in one group, and more in the group that is given back. Returns whether one was.
+fn put_twice<D: Disk>(rt: &impl Abort, project: &mut Project<D>) -> Result<bool, ProjectError> {
+    let mut group = project.begin_group()?;
+    expect_staged(rt, project, &mut group, LINES, 0);
+    let Some(mut next) = project.put_and_begin(group)? else {
+        return Ok(false);
+    };
+    expect_staged(rt, project, &mut next, MORE, 2);
+    let ended = project.put(next);
+    same(rt, &(ended, vertices(project)), &(Ok(()), 2));
+    Ok(true)
+}
+
+#[test]
+fn goes_on_behind_a_group(rt: HostRuntime) -> Result<(), Fail> {
+    let mut project = created(rt.alloc(), empty_disk(rt.alloc())?, SMALL)?;
+    same(&rt, &put_twice(&rt, &mut project)?, &true);
+    same(&rt, &found(rt.alloc(), project.into_disk())?, &(2, 1));
+    Ok(())
 }
 
 // The disk of a new project that has put the lines, whose k-th device call fails.

@@ -1,0 +1,35 @@
+//! A drawing onto a project that is stopped at any moment.
+ghost use Rattle.std.specs.Prelude.{ℕ, Bool, List, Option, Result};
+ghost use Rattle.store_project.specs.Calls.{AllMade, ProjectCall};
+ghost use Rattle.store_project.specs.Sessions.{Creates};
+ghost use Rattle.store_project.specs.States.{State};
+ghost use Rattle.run_script.specs.Canvases.{project_canvas};
+ghost use Rattle.run_script.specs.Drawn.{IsScriptDrawn};
+ghost use Rattle.run_script.specs.Stopped.{HoldsAtMoments};
+ghost use Rattle.run_script.specs.Waiting.{Drawing, first_drawing};
+ghost use Rattle.run_script.specs.declared.drawing.Stop.{Stop};
+ghost use Rattle.run_script.specs.declared.error.ScriptError.{ScriptError};
+
+use store_disk::Disk;
+use store_project::hold_each_acknowledged;
+
+/// By the contract of `draw`, a drawing onto a project is a list of calls of `put` and `apply`. So a session may hold
+/// drawings beside other calls and runs, as `hold_each_acknowledged` requires. If a drawing onto a new project is
+/// stopped before or within any write, each image stands for the map of a prefix of the accepted commands that holds
+/// every acknowledged one, and that is what `open` gives. The prefix has all commands of a group or none. The body only
+/// cites the law of sessions: the contract is a law.
+pub fn drawings_hold_acknowledged<D: Disk>()
+    ensures calls { (first : State D) (last : Drawing D) (verbose : Bool)
+        (lines : List (ℕ × List ℕ)) (result : Result (Option Stop) ScriptError)
+        (u w : Option (List ℕ))
+        → IsScriptDrawn (project_canvas D.Disk) verbose lines result (first_drawing first) u last w
+        → (calls : List ProjectCall) × AllMade D.Disk first calls last.project }
+    ensures any_moment { (cap : ℕ) (first : State D) (last : Drawing D) (verbose : Bool)
+        (lines : List (ℕ × List ℕ)) (result : Result (Option Stop) ScriptError)
+        (u w : Option (List ℕ)) → Creates D.Disk cap first
+        → IsScriptDrawn (project_canvas D.Disk) verbose lines result (first_drawing first) u last w
+        → (calls : List ProjectCall) × AllMade D.Disk first calls last.project
+        × HoldsAtMoments D.Disk cap first calls last.project }
+{
+    hold_each_acknowledged::<D>();
+}

@@ -1,0 +1,140 @@
+//! Vertices drawn onto a new project over a disk on which each call in turn fails. What the disk holds is looked at
+//! after stops of all kinds. Runs and drawings of scripts share this.
+
+use crate::expect::same;
+use std::alloc::Global;
+use std::process::Abort;
+use std::test::Fail;
+use store_disk::{Disk, FaultDisk, MemoryDisk};
+use store_project::{Geometry, Project};
+use tests_store::small::{FILLS, created, found};
+
+/// A journal that 34 lines of 10 bytes fill.
+pub const GEOMETRY: Geometry = Geometry {
+    slot: 1024,
+    journal: 512,
+};
+
+/// So many vertices, each drawn by a line of 10 bytes, and how long the project's journal is.
+pub struct Row {
+    journal: u32,
+    pub count: u32,
+    // How many of them are on the disk between two puts.
+    kept: &'static [u32],
+    // How many bytes of a failing write are still written.
+    parts: &'static [u32],
+}
+
+impl Row {
+    /// The lengths of the project's parts.
+    pub fn geometry(&self) -> Geometry {
+        Geometry {
+            journal: self.journal,
+            ..GEOMETRY
+        }
+    }
+}
+
+// Groups of 1, 2, 100 and of a full journal. For a line that has no room in the journal a checkpoint comes first, and
+// then it is put alone.
+#[rattlefmt::skip]
+const ROWS: &[Row] = &[
+    Row { journal: 512, count: 1, kept: &[0, 1], parts: &[0, 1, 7, 999] },
+    Row { journal: 512, count: 2, kept: &[0, 2], parts: &[0, 1, 20, 999] },
+    Row { journal: 2048, count: 100, kept: &[0, 100], parts: &[0, 40, 1499] },
+    Row { journal: 512, count: 34, kept: &[0, 34], parts: &[40] },
+    Row { journal: 512, count: 100, kept: &[0, 34, 35, 68, 69, 100], parts: &[40] },
+];
+
+/// The lines that draw so many vertices.
+pub fn input(alloc: Global, count: u32) -> Result<Vec<u8>, Fail> {
+    let mut lines = Vec::new(alloc);
+    for n in 0..count {
+        let line = format!(in alloc; "vertex {} {}\n", n / 10, n % 10)?;
+        lines.extend_from_slice(line.as_bytes())?;
+    }
+    Ok(lines)
+}
+
+/// A new project on a disk whose k-th call fails after the first `part` bytes of its write. The first 8 calls are those
+/// of `create`.
+pub fn failing(
+    alloc: Global,
+    geometry: Geometry,
+    fault: (u64, u32),
+) -> Result<Project<FaultDisk<MemoryDisk>>, Fail> {
+    let disk = MemoryDisk::new(alloc, 8192, 65536)?;
+    Ok(created(alloc, FaultDisk::new(disk, fault.0, fault.1), geometry)?)
+}
+
+// Whether the project of a disk has as many vertices as it had, or as many as after the next put.
+fn is_either<D: Disk + Drop>(alloc: Global, disk: D, had: u32, kept: &[u32]) -> Result<bool, Fail> {
+    let count = found(alloc, disk)?.0;
+    let next = kept.iter().find(|n| **n > had);
+    Ok(count == had || next.is_some_and(|n| *n == count))
+}
+
+// The same after stops of all kinds.
+fn are_either(alloc: Global, disk: &MemoryDisk, had: u32, kept: &[u32]) -> Result<bool, Fail> {
+    for &fill in FILLS {
+        if !is_either(alloc, disk.stop(alloc, fill, false)?, had, kept)?
+            || !is_either(alloc, disk.stop(alloc, fill, true)?, had, kept)?
+        {
+            return Ok(false);
+        }
+    }
+    Ok(true)
+}
+
+/// A way to draw vertices.
+pub trait Way {
+    /// Draws the vertices onto a project, and tests what is told. Returns how many the project then has, and its disk.
+    fn drawn<R: Abort>(
+        &self,
+        rt: &R,
+        alloc: Global,
+        row: &Row,
+        fault: (u64, u32),
+    ) -> Result<(u32, FaultDisk<MemoryDisk>), Fail>;
+}
+
+// Draws over a disk on which a call fails, and tests what the disk holds. Returns whether none failed.
+fn fail_once<W: Way, R: Abort>(
+    way: &W,
+    rt: &R,
+    alloc: Global,
+    row: &Row,
+    fault: (u64, u32),
+) -> Result<bool, Fail> {
+    let (had, disk) = way.drawn(rt, alloc, row, fault)?;
+    same(rt, &(fault, row.kept.contains(&had)), &(fault, true));
+    let is_either = are_either(alloc, disk.inner(), had, row.kept)?;
+    same(rt, &(fault, is_either), &(fault, true));
+    Ok(had == row.count)
+}
+
+// Each call fails in turn.
+fn sweep<W: Way, R: Abort>(
+    way: &W,
+    rt: &R,
+    alloc: Global,
+    row: &Row,
+    part: u32,
+) -> Result<(), Fail> {
+    for k in 9_u64..200 {
+        if fail_once(way, rt, alloc, row, (k, part))? {
+            return Ok(());
+        }
+    }
+    Err(Fail::from("too many calls"))
+}
+
+/// The same with groups of 1, 2, 100 and of a full journal.
+pub fn sweep_all<W: Way, R: Abort>(way: &W, rt: &R, alloc: Global) -> Result<(), Fail> {
+    for row in ROWS {
+        for &part in row.parts {
+            sweep(way, rt, alloc, row, part)?;
+        }
+    }
+    Ok(())
+}
