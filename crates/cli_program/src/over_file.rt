@@ -11,7 +11,8 @@ use crate::over_disk::{create, edit};
 use crate::salvage_request::salvage_lines;
 use crate::script_file::{read_file, read_script_of};
 use cli_files::{
-    Access, Cause, Content, GaplessFile, Hold, NotedFile, ReadFile, content_in, open_held, open_to_read,
+    Access, Cause, Content, GaplessFile, Hold, NotedFile, ReadFile, content_in, open_held,
+    open_to_read,
 };
 use cli_refusals::{Causes, Refusal};
 use std::io::{Read, Write};
@@ -42,11 +43,7 @@ where
 
 // The file that a request writes, held until it is dropped, which knows why its last call failed; or notes why it can't
 // be opened.
-fn file_at<E: Files>(
-    rt: &E,
-    path: &str,
-    why: &mut Causes,
-) -> Result<NotedFile<E::File>, Refusal>
+fn file_at<E: Files>(rt: &E, path: &str, why: &mut Causes) -> Result<NotedFile<E::File>, Refusal>
 where
     E::File: Hold,
     ensures { IfErr result (λ r. r ≡ Refusal.Project ProjectError.Device) }

@@ -42,7 +42,13 @@ where
 {
     let mut file = open_read(rt, path, why)?;
     match content_in(&file) {
-        Ok(Content::Wad) => return check_wad(rt.alloc(), &mut file.file, name, writer, &mut why.file),
+        Ok(Content::Wad) => return check_wad(
+            rt.alloc(),
+            &mut file.file,
+            name,
+            writer,
+            &mut why.file,
+        ),
         Ok(Content::Text | Content::Picture) => return check_script(
             rt.alloc(),
             path,
@@ -87,7 +93,17 @@ where
     match content_in(&file) {
         Ok(Content::Wad) => return lint_wad(rt, &mut file.file, name, iwad, choice, writer, why),
         Ok(Content::Text | Content::Picture) => {
-            return lint_script(rt, path, &mut file.file, name, iwad, choice, writer, faults, why);
+            return lint_script(
+                rt,
+                path,
+                &mut file.file,
+                name,
+                iwad,
+                choice,
+                writer,
+                faults,
+                why,
+            );
         }
         _ => {}
     }
@@ -170,7 +186,13 @@ where
     match content_in(&file) {
         Ok(Content::Wad) => return picture_wad(rt.alloc(), rt, &mut file.file, wanted, writer, why),
         Ok(Content::Text | Content::Picture) => return picture_script(
-            rt, path, &mut file.file, wanted, writer, faults, why,
+            rt,
+            path,
+            &mut file.file,
+            wanted,
+            writer,
+            faults,
+            why,
         ),
         _ => {}
     }

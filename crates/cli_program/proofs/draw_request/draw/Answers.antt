@@ -17,7 +17,16 @@ returns-in-Err-clause-drawn g c = rw c.not_opened.ensures.disk (inl ((c.in-Err.r
 
 pub returns-in-Some-clause-drawn : goal.returns-in-Some-clause-drawn
 returns-in-Some-clause-drawn g c =
-    inr (c.in-Ok.project, c.in-Ok.ensures.opened, inl (held_back c.args.script.name.now c.args.script.text.now _ (draft_over c.in-Ok.project) (g.F.Write.contents c.args.faults.now) (g.F.Write.contents c.rehearse.new.faults) c.in-Some.ensures.tried, c.into_disk.ensures.disk, Keeps-refl (g.W.Write.contents c.args.writer.now)))
+    inr (
+      c.in-Ok.project,
+      c.in-Ok.ensures.opened,
+      inl (
+        held_back c.args.script.name.now c.args.script.text.now _ (draft_over c.in-Ok.project) (g.F.Write.contents c.args.faults.now) (g.F.Write.contents c.rehearse.new.faults)
+            c.in-Some.ensures.tried,
+        c.into_disk.ensures.disk,
+        Keeps-refl (g.W.Write.contents c.args.writer.now),
+      ),
+    )
 
 pub returns-clause-drawn : goal.returns-clause-drawn
 returns-clause-drawn g c =
