@@ -24,7 +24,7 @@ _leveled() {
         ;;
     *)
         case $subcommand in
-        help) mapfile -t COMPREPLY < <(compgen -W 'scratch create edit check lint draw dump picture build rebuild inspect codes' -- "$word") ;;
+        help) mapfile -t COMPREPLY < <(compgen -W 'scratch create edit check lint draw dump picture build rebuild inspect codes scripts' -- "$word") ;;
         create | edit | check | lint | draw | dump | picture | build | rebuild | inspect) mapfile -t COMPREPLY < <(compgen -f -- "$word") ;;
         esac
         ;;

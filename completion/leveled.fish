@@ -33,4 +33,4 @@ complete -c leveled -n "__fish_seen_subcommand_from picture" -l grid -d 'Add a g
 complete -c leveled -n "__fish_seen_subcommand_from picture" -l crop -x -d 'Show only the box X1,Y1,X2,Y2'
 complete -c leveled -n "__fish_seen_subcommand_from rebuild" -l map -x -d 'Build this level anew'
 complete -c leveled -n "__fish_seen_subcommand_from scratch help" -f
-complete -c leveled -n "__fish_seen_subcommand_from help" -f -a 'scratch create edit check lint draw dump picture build rebuild inspect codes'
+complete -c leveled -n "__fish_seen_subcommand_from help" -f -a 'scratch create edit check lint draw dump picture build rebuild inspect codes scripts'

@@ -23,7 +23,7 @@ use Rattle.cli_words.specs.Request.{HasMoreThanFile, HasNumber, IsSubcommand, La
 use Rattle.cli_words.specs.Boxes.{HasNoBox}
 use Rattle.cli_words.specs.RuleWords.{HasUnknownWord}
 use Rattle.cli_words.specs.declared.asked.RequestError.{RequestError}
-use Rattle.cli_words.specs.declared.asked.RequestError.TheVariants.{Words, Codes, Number, WholeAlone, NotARule, NotABox, Memory}
+use Rattle.cli_words.specs.declared.asked.RequestError.TheVariants.{Words, Help, Number, WholeAlone, NotARule, NotABox, Memory}
 
 pub is_simple-leveled : is_simple leveled_app ≡ true
 unfolding clap_on_literals
@@ -148,7 +148,7 @@ asks o name rows P is holds = subst (λ (p : Option (Text × List Row)). IsSomeA
 
 pub refuses : (words : List Text) (name : Text) (rows : List Row) (e : RequestError) → subcommand_of leveled_app words ≡ Some (name, rows) → RefusesValues (name, rows) e → RefusesRead words e
 refuses words name rows (Words error) is never = absurd never
-refuses words name rows Codes is never = absurd never
+refuses words name rows (Help topic) is never = absurd never
 refuses words name rows Number is lacks = asks (subcommand_of leveled_app words) name rows LacksValue is lacks
 refuses words name rows WholeAlone is has = asks (subcommand_of leveled_app words) name rows HasMoreThanFile is has
 refuses words name rows (NotARule word) is has = asks (subcommand_of leveled_app words) name rows (HasUnknownWord (string_bytes word)) is has

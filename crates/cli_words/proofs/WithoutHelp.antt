@@ -1,15 +1,16 @@
 -- Words that are read without `help`.
-use Rattle.std.proofs.Common.{◌≡◌, ◌∙◌, List, [], ◌∷◌, Bool, true, false, arith, ap, get_or, length, map, refl, subst, sym}
+use Rattle.std.proofs.Common.{◌≡◌, ◌∙◌, List, [], ◌∷◌, Bool, true, false, None, Some, arith, ap, get_or, length, map, refl, subst, sym}
 use Rattle.std.specs.Prelude.{codes, not}
 use Rattle.std.proofs.lemmas.List.{length-map}
 use Rattle.std.proofs.lemmas.Bool.{cond-false, cond-true}
 use Rattle.std.proofs.lemmas.Slice.Eq.{bytes_eq-Decides}
 use Rattle.std.specs.Str.{bytes_eq}
 use Rattle.clap.specs.Words.{Text}
-use Rattle.cli_words.specs.Help.{AsksForCodes, IsRefusal, without_help}
+use Rattle.cli_words.specs.Help.{AsksForTopic, IsRefusal, topic_of, without_help}
 use Rattle.cli_words.specs.Request.{RefusesRead}
 use Rattle.cli_words.specs.declared.asked.RequestError.{RequestError}
-use Rattle.cli_words.specs.declared.asked.RequestError.TheVariants.{Words, Codes, Number, WholeAlone, NotARule, NotABox, Memory}
+use Rattle.cli_words.specs.declared.topic.Topic.{Topic}
+use Rattle.cli_words.specs.declared.asked.RequestError.TheVariants.{Words, Help, Number, WholeAlone, NotARule, NotABox, Memory}
 
 -- the two words of a list of two
 pub two : {X : Type 0} (f : X → Text) (xs : List X) (d : X) → length xs ≡ 2 → f (get_or xs 0 d) ∷ f (get_or xs 1 d) ∷ [] ≡ map f xs
@@ -26,16 +27,16 @@ others f (x ∷ y ∷ []) no_two no_three = absurd (no_two refl)
 others f (x ∷ y ∷ z ∷ []) no_two no_three = absurd (no_three refl)
 others f (x ∷ y ∷ z ∷ w ∷ xs) no_two no_three = refl
 
--- words of another number aren't `help codes`
-pub no_codes : (words : List Text) → (length words ≡ 3 → ⊥) → ¬ (AsksForCodes words)
-no_codes words other (program, is) = other (ap length is)
+-- words of another number ask for no topic
+pub no_topic : (words : List Text) → (length words ≡ 3 → ⊥) → (topic : Topic) → ¬ (AsksForTopic words topic)
+no_topic words other topic (program, name, is, of) = other (ap length is)
 
-pub others_no_codes : {X : Type 0} (f : X → Text) (xs : List X) → (length xs ≡ 3 → ⊥) → ¬ (AsksForCodes (map f xs))
-others_no_codes f xs other = no_codes (map f xs) (λ e. other (sym (length-map xs f) ∙ e))
+pub others_no_topic : {X : Type 0} (f : X → Text) (xs : List X) → (length xs ≡ 3 → ⊥) → (topic : Topic) → ¬ (AsksForTopic (map f xs) topic)
+others_no_topic f xs other = no_topic (map f xs) (λ e. other (sym (length-map xs f) ∙ e))
 
 -- what refuses the words that are read refuses these
-pub refused_as : (words reads : List Text) (r : RequestError) → reads ≡ without_help words → ¬ (AsksForCodes words) → RefusesRead reads r → IsRefusal words r
-refused_as words reads Codes same other is = absurd is
+pub refused_as : (words reads : List Text) (r : RequestError) → reads ≡ without_help words → ((topic : Topic) → ¬ (AsksForTopic words topic)) → RefusesRead reads r → IsRefusal words r
+refused_as words reads (Help topic) same other is = absurd is
 refused_as words reads (Words e) same other is = (other, subst (λ (ws : List Text). RefusesRead ws (Words e)) same is)
 refused_as words reads Number same other is = (other, subst (λ (ws : List Text). RefusesRead ws Number) same is)
 refused_as words reads WholeAlone same other is = (other, subst (λ (ws : List Text). RefusesRead ws WholeAlone) same is)
@@ -55,11 +56,11 @@ read_plainly program word name r other is = go (bytes_eq word (codes "help")) re
     go false e =
         refused_as (program ∷ word ∷ name ∷ []) (program ∷ word ∷ name ∷ []) r
         (sym (cond-false (bytes_eq word (codes "help")) (program ∷ name ∷ codes "--help" ∷ []) (program ∷ word ∷ name ∷ []) e))
-        (λ (p, same). let at : word ≡ codes "help" = ap (λ (ws : List Text). get_or ws 1 []) same in
+        (λ topic (p, n, same, of). let at : word ≡ codes "help" = ap (λ (ws : List Text). get_or ws 1 []) same in
         let is_help = (bytes_eq-Decides word (codes "help")).1 at in cc) is
 
--- it is, and the other isn't `codes`
-pub read_helped : (program word name : Text) (r : RequestError) → false ≡ not (bytes_eq word (codes "help")) → false ≡ bytes_eq name (codes "codes")
+-- it is, and the other names no topic
+pub read_helped : (program word name : Text) (r : RequestError) → false ≡ not (bytes_eq word (codes "help")) → topic_of name ≡ None
     → RefusesRead (program ∷ name ∷ codes "--help" ∷ []) r → IsRefusal (program ∷ word ∷ name ∷ []) r
 read_helped program word name r helps other is = go (bytes_eq word (codes "help")) refl
   where
@@ -68,5 +69,5 @@ read_helped program word name r helps other is = go (bytes_eq word (codes "help"
     go true e =
         refused_as (program ∷ word ∷ name ∷ []) (program ∷ name ∷ codes "--help" ∷ []) r
         (sym (cond-true (bytes_eq word (codes "help")) (program ∷ name ∷ codes "--help" ∷ []) (program ∷ word ∷ name ∷ []) e))
-        (λ (p, same). let at : name ≡ codes "codes" = ap (λ (ws : List Text). get_or ws 2 []) same in
-        let is_codes = (bytes_eq-Decides name (codes "codes")).1 at in cc) is
+        (λ topic (p, n, same, of). let at : name ≡ n = ap (λ (ws : List Text). get_or ws 2 []) same in
+        let never : Some topic ≡ None = sym of ∙ ap topic_of (sym at) ∙ other in cc) is

@@ -11,7 +11,7 @@ use Rattle.cli_words.specs.Boxes.{HasNoBox, IsCropAsked}
 use Rattle.cli_words.specs.RuleWords.{HasUnknownWord, all_given, unknown_given}
 use Rattle.cli_words.specs.declared.asked.Request.{Request}
 use Rattle.cli_words.specs.declared.asked.RequestError.{RequestError}
-use Rattle.cli_words.specs.declared.asked.RequestError.TheVariants.{Words, Codes, Number, WholeAlone, NotARule, NotABox, Memory}
+use Rattle.cli_words.specs.declared.asked.RequestError.TheVariants.{Words, Help, Number, WholeAlone, NotARule, NotABox, Memory}
 use Rattle.cli_words.specs.declared.asked.Request.TheVariants.{Scratch, Create, Edit, Check, Lint, Draw, TryScript, Dump, Salvage, Picture, Inspect, Levels, Build, Rebuild}
 
 -- the argument's text is this number in decimal digits, and it is within the limits
@@ -117,7 +117,7 @@ IsIntoWad name = (name ≡ codes "build") ⊎ (name ≡ codes "rebuild")
 -- why an argument's text can't be had: it has none, or there is no memory for a copy
 abbrev pub RefusesText : Text → List Row → RequestError → Type 0
 RefusesText id rows (Words error) = ⊥
-RefusesText id rows Codes = ⊥
+RefusesText id rows (Help topic) = ⊥
 RefusesText id rows WholeAlone = ⊥
 RefusesText id rows (NotARule word) = ⊥
 RefusesText id rows (NotABox text) = ⊥
@@ -144,7 +144,7 @@ HasMoreThanFile asked =
 -- why the values of a subcommand's arguments are refused
 abbrev pub RefusesValues : Text × List Row → RequestError → Type 0
 RefusesValues asked (Words error) = ⊥
-RefusesValues asked Codes = ⊥
+RefusesValues asked (Help topic) = ⊥
 RefusesValues asked Number = LacksValue asked
 RefusesValues asked WholeAlone = HasMoreThanFile asked
 RefusesValues asked (NotARule word) = HasUnknownWord (string_bytes word) asked
@@ -158,7 +158,7 @@ abbrev pub RefusesRead : List Text → RequestError → Type 0
 RefusesRead words (Words error) =
     HasKind (fault_of leveled_app words) error
     × (takes leveled_app words ≡ true → kind_of error ≡ OutOfMemory)
-RefusesRead words Codes = ⊥
+RefusesRead words (Help topic) = ⊥
 RefusesRead words Number = IsSomeAnd (subcommand_of leveled_app words) LacksValue
 RefusesRead words WholeAlone = IsSomeAnd (subcommand_of leveled_app words) HasMoreThanFile
 RefusesRead words (NotARule word) =

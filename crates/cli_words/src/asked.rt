@@ -1,4 +1,5 @@
 //! What the program's arguments ask for, or why they are no request.
+use crate::topic::Topic;
 use lump_records::Bounds;
 use thiserror::Error;
 
@@ -101,9 +102,9 @@ pub enum RequestError {
     /// clap refuses the arguments, or they ask for help or the version.
     #[error(transparent)]
     Words(#[from] clap::Error),
-    /// The arguments are `help codes`, which asks for the table of the refusals.
-    #[error("the table of the refusals is asked for")]
-    Codes,
+    /// The arguments are `help TOPIC`.
+    #[error("help is asked for")]
+    Help(Topic),
     /// clap accepted an argument without a value within its limits.
     #[error("a number is outside its limits")]
     Number,

@@ -9,6 +9,7 @@ use crate::app::leveled;
 use crate::asked::{Request, RequestError};
 use crate::lint_words::asked_lint;
 use crate::picture_words::asked_picture;
+use crate::topic::topic_of;
 use clap::ArgMatches;
 use std::alloc::Global;
 
@@ -318,7 +319,7 @@ fn as_option<'a>(word: &'a str) -> &'a str
     if word == "help" { "--help" } else { word }
 }
 
-// What two arguments after the program's name ask for; they may be `help NAME` or `help codes`.
+// What two arguments after the program's name ask for; they may be `help NAME` or `help TOPIC`.
 fn read_two(alloc: Global, program: &str, word: &str, name: &str) -> Result<Request, RequestError>
     ensures asked { IfOk result (λ r. IsSomeAnd (subcommand_of leveled_app
         (without_help (program.now ∷ word.now ∷ name.now ∷ []))) (AsksFor r)) }
@@ -327,10 +328,10 @@ fn read_two(alloc: Global, program: &str, word: &str, name: &str) -> Result<Requ
     if word != "help" {
         return read(alloc, &[program, word, name]);
     }
-    if name == "codes" {
-        return Err(RequestError::Codes);
+    match topic_of(name) {
+        Some(topic) => Err(RequestError::Help(topic)),
+        None => read(alloc, &[program, name, "--help"]),
     }
-    read(alloc, &[program, name, "--help"])
 }
 
 /// What the arguments ask for; the first one is the program's name. `help` alone is read as `--help`, and `help NAME`
@@ -339,7 +340,7 @@ fn read_two(alloc: Global, program: &str, word: &str, name: &str) -> Result<Requ
 /// # Errors
 ///
 /// `Words` if clap refuses the arguments, or answers them itself with help or the version; clap's error has the text,
-/// its stream and the status. `Codes` for `help codes`. `Number` if clap accepted an argument without a value within
+/// its stream and the status. `Help` for `help TOPIC`. `Number` if clap accepted an argument without a value within
 /// its limits. `WholeAlone` if `dump --salvage` has a name or `--exact`. `NotARule` if `lint` is given a word that no
 /// rule has. `NotABox` if `picture` is given a text that writes no box, or an empty one. `Memory` if there is none.
 pub fn request(alloc: Global, words: &[&str]) -> Result<Request, RequestError>

@@ -38,9 +38,9 @@ arguments are wrong; 3 `check` or `lint` has findings, `inspect` found a fault, 
 script was refused, or `dump` or `rebuild` skipped a level.
 
 `leveled help SUBCOMMAND` explains a subcommand. `leveled help codes` says what to do
-about each CODE. `make install` also installs the manual page leveled(1) and, in
-share/doc/leveled, COMMANDS.md (every command and refusal) and FIRST_LEVEL.md (a first
-level step by step).";
+about each CODE, `leveled help scripts` what the lines of a script may be. `make install`
+also installs the manual page leveled(1) and, in share/doc/leveled, COMMANDS.md (every
+command and refusal) and FIRST_LEVEL.md (a first level step by step).";
 
 /// `scratch`.
 pub const SCRATCH: &str = "\
@@ -157,6 +157,38 @@ Reads the level NAME, for example MAP01 or E1M1, of a PWAD or an IWAD. Prints ho
 lumps are, then `sound` or the first fault, for example `fault LineVertex 0` if line 0
 names a vertex that doesn't exist; the status is then 3. Without NAME it prints the names
 of the WAD's levels.";
+
+/// The lines and words of scripts. Printed for `help scripts`.
+pub const SCRIPTS: &str = "\
+`draw` draws a script, and a script may stand in place of a project. Each of its lines is
+a command or a query as `leveled --help` lists them, or one of those below. Words are
+separated by spaces or tabs; one that begins with # begins a comment. In every line but
+a `let` a word may be one of the second table.
+  NAME = COMMAND            NAME stands for what the command adds
+  area F C FN CN WALL LIGHT X Y X Y X Y ..
+                            a sector inside the corners, which shares what is there
+  pillar WALL X Y X Y X Y ..
+                            walls round nothing
+  door SECTOR FACE TRACK [SPECIAL]
+                            a door in place of the sector
+  change KIND N NAME=VALUE ..
+                            the item N with other values
+  let NAME WORD ..          NAME stands for these words
+  for NAME FROM TO          draws the lines up to its `end` for each whole number
+  at X Y [ANGLE]            turns and moves the places in the lines up to its `end`
+  define NAME PARAM ..      makes a shape of the lines up to its `end`
+  NAME WORD ..              draws the shape NAME, with a WORD for each PARAM
+  OTHER = NAME WORD ..      the same; OTHER stands for what it adds
+  end                       ends the nearest `for`, `at` or `define`
+
+  $NAME                     the number that the command of NAME answered, or a word
+  $NAME.vertex              the first vertex that it added; also .line, .side, .sector
+                            and .thing
+  $vertex(X,Y)              the vertex at a place; also $line, $sector and $thing
+  $NAME.line+2              two more
+  $w*2, 64-$w, ($a+$b)/2    sums, without blanks
+A script is drawn whole or not at all. COMMANDS.md, \"Scripts\", says all of it, with
+examples.";
 
 /// The refusals: the number of each, its name, and what to do. Printed for `help codes`.
 pub const CODES: &str = "\

@@ -10,7 +10,7 @@ use Rattle.cli_words.specs.Help.{IsRefusal, without_help}
 use Rattle.cli_words.specs.Request.{AsksFor}
 use Rattle.cli_words.specs.declared.asked.Request.{Request}
 use Rattle.cli_words.specs.declared.asked.RequestError.{RequestError}
-use Rattle.cli_words.specs.declared.asked.RequestError.TheVariants.{Words, Codes, Number, WholeAlone, NotARule, NotABox, Memory}
+use Rattle.cli_words.specs.declared.asked.RequestError.TheVariants.{Words, Help, Number, WholeAlone, NotARule, NotABox, Memory}
 use Rattle.cli_refusals.specs.Statuses.{status_in}
 use Rattle.cli_refusals.specs.declared.refusal.Refusal.{Refusal}
 use Rattle.cli_program.specs.Deeds.{IsPerformed}
@@ -27,12 +27,12 @@ Asks words request = IsSomeAnd (subcommand_of leveled_app (without_help words)) 
 abbrev pub AsksForHelp : Error → Type 0
 AsksForHelp error = (kind_of error ≡ DisplayHelp) ⊎ (kind_of error ≡ DisplayVersion)
 
--- the status of words that are no request: 2, but for help, codes and the version 0, or 1 if they
+-- the status of words that are no request: 2, but for help and the version 0, or 1 if they
 -- can't be written
 abbrev pub EndsWords : RequestError → ℕ → Type 0
 EndsWords (Words error) status =
     (AsksForHelp error → status ≤ 1) × (¬ AsksForHelp error → status ≡ 2)
-EndsWords Codes status = status ≤ 1
+EndsWords (Help topic) status = status ≤ 1
 EndsWords Number status = status ≡ 2
 EndsWords WholeAlone status = status ≡ 2
 EndsWords (NotARule word) status = status ≡ 2

@@ -11,7 +11,7 @@ use clap::Error;
 use clap::error::ErrorKind;
 use cli_files::NotedFile;
 use cli_program::perform;
-use cli_words::{CODES, RULE_WORDS, Request, RequestError, request};
+use cli_words::{CODES, RULE_WORDS, Request, RequestError, SCRIPTS, Topic, request};
 use lump_text::write_shown_lines;
 use std::env::{self, Env, FillError};
 use std::fs::{self, File};
@@ -146,7 +146,8 @@ fn refuse(rt: &HostRuntime, error: &RequestError) -> u8
 {
     match error {
         RequestError::Words(error) => answer_words(rt, error),
-        RequestError::Codes => after_printing(rt, println!(rt; "{CODES}").is_ok()),
+        RequestError::Help(Topic::Codes) => after_printing(rt, println!(rt; "{CODES}").is_ok()),
+        RequestError::Help(Topic::Scripts) => after_printing(rt, println!(rt; "{SCRIPTS}").is_ok()),
         RequestError::Memory => {
             complain_of_memory(rt);
             NO_REQUEST

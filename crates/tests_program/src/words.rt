@@ -1,7 +1,7 @@
 //! The program's arguments.
 
 use crate::expect::same;
-use cli_words::{Request, RequestError, request};
+use cli_words::{Request, RequestError, Topic, request};
 use std::alloc::Global;
 use std::test::Fail;
 
@@ -45,9 +45,11 @@ fn reads_words(rt: HostRuntime) -> Result<(), Fail> {
 }
 
 #[test]
-fn reads_a_wish_for_the_refusals(rt: HostRuntime) {
+fn reads_a_wish_for_a_topic(rt: HostRuntime) {
     let asked = request(rt.alloc(), &["leveled", "help", "codes"]);
-    assert!(rt; matches!(asked, Err(RequestError::Codes)));
+    assert!(rt; matches!(asked, Err(RequestError::Help(Topic::Codes))));
+    let asked = request(rt.alloc(), &["leveled", "help", "scripts"]);
+    assert!(rt; matches!(asked, Err(RequestError::Help(Topic::Scripts))));
 }
 
 // Options of `create`, and the status if clap refuses them.

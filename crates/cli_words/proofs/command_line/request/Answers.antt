@@ -4,7 +4,7 @@ use Rattle.clap.specs.Words.{Text, subcommand_of}
 use Rattle.cli_words.specs.Help.{without_help}
 use Rattle.cli_words.specs.App.{leveled_app}
 use Rattle.cli_words.specs.Request.{AsksFor}
-use Rattle.cli_words.proofs.WithoutHelp.{others, others_no_codes, refused_as, two}
+use Rattle.cli_words.proofs.WithoutHelp.{others, others_no_topic, refused_as, two}
 use Rattle.cli_words.proofs.command_line.request.Goals as goal
 
 pub returns-in-2-clause-refused : goal.returns-in-2-clause-refused
@@ -17,7 +17,7 @@ returns-in-2-clause-refused c =
     let reads : program ∷ word ∷ [] ≡ without_help (map (λ w. w.now) ws) =
     ap (λ (t : Text). program ∷ t ∷ []) c.as_option.ensures ∙ ap without_help (two (λ w. w.now) ws none len) in
     IfErr-weaker c.read.result _ _
-    (λ e h. refused_as (map (λ w. w.now) ws) (program ∷ word ∷ []) e reads (others_no_codes (λ w. w.now) ws (λ three. omega arith)) h)
+    (λ e h. refused_as (map (λ w. w.now) ws) (program ∷ word ∷ []) e reads (others_no_topic (λ w. w.now) ws (λ three. omega arith)) h)
     c.read.ensures.refused
 
 pub returns-in_default-clause-asked : goal.returns-in_default-clause-asked
@@ -31,5 +31,5 @@ returns-in_default-clause-refused c =
     let ws = c.args.words.now in
     IfErr-weaker c.read-in_default.result _ _
     (λ e h. refused_as (map (λ w. w.now) ws) (map (λ w. w.now) ws) e (others (λ w. w.now) ws (λ s. omega arith) (λ s. omega arith))
-    (others_no_codes (λ w. w.now) ws (λ three. omega arith)) h)
+    (others_no_topic (λ w. w.now) ws (λ three. omega arith)) h)
     c.read-in_default.ensures.refused
