@@ -162,8 +162,8 @@ of the WAD's levels.";
 pub const SCRIPTS: &str = "\
 `draw` draws a script, and a script may stand in place of a project. Each of its lines is
 a command or a query as `leveled --help` lists them, or one of those below. Words are
-separated by spaces or tabs; one that begins with # begins a comment. In every line but
-a `let` a word may be one of the second table.
+separated by spaces or tabs; one that begins with # begins a comment. The words behind
+the first may be those of the second table.
   NAME = COMMAND            NAME stands for what the command adds
   area F C FN CN WALL LIGHT X Y X Y X Y ..
                             a sector inside the corners, which shares what is there
