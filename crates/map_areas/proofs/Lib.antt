@@ -1,5 +1,6 @@
 pub mod Leading
 pub mod Copies
+pub mod Crossed
 pub mod Keeping
 pub mod Others
 pub mod LeftAlone

@@ -1,16 +1,19 @@
 -- What a refusal of a shape says of the map.
-use Rattle.std.specs.Prelude.{◌≡◌, ℕ, Bool, true, false, ◌&&◌, ◌||◌, not, All, List, Some, slice_get}
+use Rattle.std.specs.Prelude.{◌≡◌, ℕ, Bool, true, false, ◌&&◌, ◌||◌, not, All, List, Option, Some, is_none, option_and_then, slice_get}
 use Rattle.std.specs.List.{list_any}
 use Rattle.std.specs.Option.{option_map_or}
 use Rattle.lump_records.specs.declared.records.Vertex.{Vertex}
-use Rattle.map_plane.specs.Meeting.{ends_at, has_on_both_sides, is_on}
+use Rattle.map_plane.specs.Meeting.{ends_at, has_on_both_sides, is_at, is_on}
+use Rattle.map_plane.specs.Nearest.{nearest, sector_shown}
 use Rattle.map_plane.specs.Places.{placed_lines}
 use Rattle.map_plane.specs.Polygon.{is_inside}
 use Rattle.map_plane.specs.declared.places.PlacedLine.{PlacedLine}
 use Rattle.map_tables.specs.Tables.{Tables}
 use Rattle.map_areas.specs.declared.error.AreaError.{AreaError}
-use Rattle.map_areas.specs.declared.error.AreaError.TheVariants.{Crossing, NotAPolygon, NotEmpty, OutOfMemory, OverVertex, SeveralSectors}
+use Rattle.map_areas.specs.declared.error.AreaError.TheVariants.{Crossing, NotAPolygon, NotEmpty, OutOfMemory, OutOfRange, OverVertex, SeveralSectors}
+use Rattle.map_areas.specs.declared.error.Part.{Part}
 use Rattle.map_areas.specs.Apart.{place_sum}
+use Rattle.map_areas.specs.Ways.{crosses_way, is_clear, is_same, runs_along, sector_on_right, way}
 
 -- two lines have a point in common: they cross, or an end of one lies on the other
 abbrev pub touches : PlacedLine → PlacedLine → Bool
@@ -30,9 +33,25 @@ abbrev pub IsVertexUnder : Tables → List PlacedLine → ℕ → Type 0
 IsVertexUnder m es n =
     option_map_or (λ v. list_any (λ e. is_on e v) es) (slice_get m.vertices n) false ≡ true
 
--- a pillar is refused with 28 only if a line isn't wholly outside or a vertex lies under an edge, and never with 26
+-- the sector that a place belongs to: what the nearest line shows it
+abbrev pub sector_at : Tables → Vertex → Option ℕ
+sector_at m p = option_and_then (sector_shown m p) (nearest (placed_lines m) p)
+
+-- an edge leads from one place to the other, and the first one belongs to the sector that is told, or to the void
+abbrev pub is_corner_part : Tables → List PlacedLine → Part → Bool
+is_corner_part m es p = list_any (λ e. is_at e.from p.from && is_at e.to p.to) es
+    && is_same (sector_at m p.from) p.sector
+
+-- the second of two corners belongs to no sector, or to another one than the first
+abbrev pub are_apart : Tables → List PlacedLine → Part → Part → Bool
+are_apart m es first second = is_corner_part m es first && is_corner_part m es second
+    && (is_none second.sector || not (is_same first.sector second.sector))
+
+-- a pillar is refused with 27 only if its corners aren't in one sector, with 28 only if a line isn't wholly outside or a
+-- vertex lies under an edge, and never with 26
 abbrev pub IsPillarRefusal : Tables → List PlacedLine → AreaError → Type 0
 IsPillarRefusal m es (Crossing line near) = ⊥
+IsPillarRefusal m es (SeveralSectors first second) = are_apart m es first second ≡ true
 IsPillarRefusal m es (NotEmpty line) = IsLineInside m es line
 IsPillarRefusal m es (OverVertex vertex) = IsVertexUnder m es vertex
 IsPillarRefusal m es e = Unit {0}
@@ -65,19 +84,61 @@ HasPartInside ds l = (a : Vertex) × (b : Vertex) × (is_of_line l a ≡ true)
 abbrev pub IsPartInside : List PlacedLine → List PlacedLine → ℕ → Type 0
 IsPartInside ls ds n = (l : PlacedLine) × (slice_get ls n ≡ Some l) × HasPartInside ds l
 
--- the refusal is that of an edge: it crosses a line at no whole place, or memory lacks
-abbrev pub IsOfEdge : AreaError → Type 0
-IsOfEdge (Crossing line near) = Unit {0}
-IsOfEdge OutOfMemory = Unit {0}
-IsOfEdge e = ⊥
+-- no whole place lies on both lines
+abbrev pub HaveNoPlace : PlacedLine → PlacedLine → Type 0
+HaveNoPlace l k = (p : Vertex) → (is_on l p && is_on k p) ≡ false
+
+-- the edge crosses the line with the number, and no whole place lies on both
+abbrev pub CrossesBetween : List PlacedLine → PlacedLine → ℕ → Type 0
+CrossesBetween ls e n = (l : PlacedLine) × (slice_get ls n ≡ Some l) × (crosses_way e l ≡ true)
+    × HaveNoPlace e l
+
+-- the crossing of an edge and the line with the number is refused with 26 only if no whole place lies on both
+abbrev pub IsCrossingRefusal : PlacedLine → PlacedLine → ℕ → AreaError → Type 0
+IsCrossingRefusal e l n (Crossing line near) = (line ≡ n) × HaveNoPlace e l
+IsCrossingRefusal e l n OutOfRange = Unit {0}
+IsCrossingRefusal e l n _ = ⊥
+
+-- an edge is refused with 26 only if it crosses the line so
+abbrev pub IsEdgeRefusal : List PlacedLine → PlacedLine → AreaError → Type 0
+IsEdgeRefusal ls e (Crossing line near) = CrossesBetween ls e line
+IsEdgeRefusal ls e OutOfRange = Unit {0}
+IsEdgeRefusal ls e OutOfMemory = Unit {0}
+IsEdgeRefusal ls e _ = ⊥
+
+-- one of the edges crosses the line with the number so
+abbrev pub OneCrosses : List PlacedLine → List PlacedLine → ℕ → Type 0
+OneCrosses ls es n = (k : ℕ) × (e : PlacedLine) × (slice_get es k ≡ Some e) × CrossesBetween ls e n
+
+-- the same of the edges of an outline
+abbrev pub AreEdgesRefused : List PlacedLine → List PlacedLine → AreaError → Type 0
+AreEdgesRefused ls es (Crossing line near) = OneCrosses ls es line
+AreEdgesRefused ls es OutOfRange = Unit {0}
+AreEdgesRefused ls es OutOfMemory = Unit {0}
+AreEdgesRefused ls es _ = ⊥
 
 -- the refusal is that of a border along which there are several sectors
 abbrev pub IsOfSectors : AreaError → Type 0
 IsOfSectors (SeveralSectors first second) = Unit {0}
+IsOfSectors OutOfRange = Unit {0}
 IsOfSectors e = ⊥
 
--- an area is refused with 28 only if a part of a line lies inside, by the edges at twice the size
-abbrev pub IsAreaRefusal : Tables → List PlacedLine → AreaError → Type 0
-IsAreaRefusal m ds (NotEmpty line) = IsPartInside (placed_lines m) ds line
-IsAreaRefusal m ds (OverVertex vertex) = ⊥
-IsAreaRefusal m ds e = Unit {0}
+-- a part of the border runs along an edge, meets nothing between its ends, and has on its right, which is inside, the
+-- sector that is told, or the void
+abbrev pub is_border_part : Tables → List PlacedLine → Part → Bool
+is_border_part m es p = list_any (runs_along (way p.from p.to)) es && is_clear m (way p.from p.to)
+    && is_same (sector_on_right m (way p.from p.to)) p.sector
+
+-- two parts of the border have different sectors inside, or one of them the void
+abbrev pub are_several : Tables → List PlacedLine → Part → Part → Bool
+are_several m es first second = is_border_part m es first && is_border_part m es second
+    && not (is_same first.sector second.sector)
+
+-- an area is refused with 26 only if an edge crosses a line at no whole place, with 27 only if two parts of its border
+-- have different sectors inside, and with 28 only if a part of a line lies inside, by the edges at twice the size
+abbrev pub IsAreaRefusal : Tables → List PlacedLine → List PlacedLine → AreaError → Type 0
+IsAreaRefusal m es ds (Crossing line near) = OneCrosses (placed_lines m) es line
+IsAreaRefusal m es ds (SeveralSectors first second) = are_several m es first second ≡ true
+IsAreaRefusal m es ds (NotEmpty line) = IsPartInside (placed_lines m) ds line
+IsAreaRefusal m es ds (OverVertex vertex) = ⊥
+IsAreaRefusal m es ds e = Unit {0}

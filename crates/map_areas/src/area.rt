@@ -47,10 +47,12 @@ fn find_round(
     ground: &Ground,
     border: &Border,
 ) -> Result<Option<u16>, AreaError>
+    requires vertices { ground.now.vertices.items ≡ map.now.tables.vertices }
     requires lines { ground.now.lines.items ≡ placed_lines map.now.tables }
     requires doubled { ground.now.doubled.items ≡ doubled (placed_lines map.now.tables) }
     ensures refused { IfErr result IsOfMap }
-    ensures reason { IfErr result (IsAreaRefusal map.now.tables border.now.doubled.items) }
+    ensures reason { IfErr result (IsAreaRefusal map.now.tables border.now.edges.items
+        border.now.doubled.items) }
 {
     let round = sector_round(map, ground, border)?;
     if round.is_none() {
@@ -121,7 +123,8 @@ fn commands_within(
     ensures area { IfOk result (λ commands.
         DrawsArea edges.items map.now.tables (drawn map.now.tables commands.items)) }
     ensures refused { IfErr result IsOfMap }
-    ensures reason { IfErr result (IsAreaRefusal map.now.tables (doubled edges.items)) }
+    ensures reason { IfErr result (IsAreaRefusal map.now.tables edges.items
+        (doubled edges.items)) }
 {
     let ground = ground_of(alloc, map)?;
     let border = border_of(alloc, map, &ground.lines, edges)?;
@@ -150,8 +153,8 @@ pub fn area_commands(alloc: Global, map: &Map, area: &Area) -> Result<Vec<Comman
     ensures taken { IfOk result (λ commands. AreTaken map.now.tables commands.items) }
     ensures area { IfOk result (λ commands. DrawsArea (edges_round true area.now.corners.items)
         map.now.tables (drawn map.now.tables commands.items)) }
-    ensures reason { IfErr result (IsAreaRefusal map.now.tables
-        (doubled (edges_round true area.now.corners.items))) }
+    ensures reason { let es = edges_round true area.now.corners.items in
+        IfErr result (IsAreaRefusal map.now.tables es (doubled es)) }
 {
     let edges = polygon(alloc, &area.corners, true)?;
     commands_within(alloc, map, area, edges)

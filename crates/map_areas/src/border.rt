@@ -1,12 +1,14 @@
 //! The border of a polygon: its edges, and the places at which they are cut.
-ghost use Rattle.std.specs.Prelude.{◌≡◌, ◌&&◌, IfErr, IfOk, true};
+ghost use Rattle.std.specs.Prelude.{◌≡◌, ◌≤◌, ◌&&◌, IfErr, IfOk, true};
 ghost use Rattle.map_areas.specs.Apart.{doubled, doubled_line, place_sum};
-ghost use Rattle.map_areas.specs.Refusals.{IsOfEdge, holds_middle};
+ghost use Rattle.map_areas.specs.Errors.{IsOfMap};
+ghost use Rattle.map_areas.specs.Refusals.{AreEdgesRefused, IsAreaRefusal, IsCrossingRefusal, IsEdgeRefusal, holds_middle};
+ghost use Rattle.map_areas.specs.Ways.{crosses_way};
 ghost use Rattle.map_plane.specs.Meeting.{is_on};
+ghost use Rattle.map_plane.specs.Places.{placed_lines};
 
-use crate::crossing::near_crossing;
+use crate::crossing::{may_meet, near_crossing};
 use crate::cuts::put_along;
-use crate::drawing::number_of;
 use crate::error::AreaError;
 use crate::ways::{crosses_way, is_between};
 use lump_records::Vertex;
@@ -56,26 +58,25 @@ pub(crate) fn twice(alloc: Global, lines: &[PlacedLine]) -> Result<Vec<PlacedLin
     Ok(doubled)
 }
 
-// The whole place at which the edge crosses the line.
-fn crossing(edge: &PlacedLine, line: &PlacedLine) -> Result<Vertex, AreaError>
+// The whole place at which the edge crosses the line with the number.
+fn crossing(edge: &PlacedLine, line: &PlacedLine, number: u16) -> Result<Vertex, AreaError>
+    requires { crosses_way edge.now line.now ≡ true }
     ensures whole { IfOk result (λ place.
         (is_on edge.now place && is_on line.now place) ≡ true) }
-    ensures refused { IfErr result IsOfEdge }
+    ensures refused { IfErr result (IsCrossingRefusal edge.now line.now number) }
 {
     let near = near_crossing(edge, line);
     if is_on(edge, near) && is_on(line, near) {
         return Ok(near);
     }
-    Err(AreaError::Crossing {
-        line: number_of(line),
-        near,
-    })
+    if may_meet(edge, line) {
+        return Err(AreaError::OutOfRange);
+    }
+    Err(AreaError::Crossing { line: number, near })
 }
 
 // Adds the vertices that lie between the ends of the edge.
-fn put_vertices(stops: &mut Vec<Vertex>, map: &Map, edge: &PlacedLine) -> Result<(), AreaError>
-    ensures refused { IfErr result IsOfEdge }
-{
+fn put_vertices(stops: &mut Vec<Vertex>, map: &Map, edge: &PlacedLine) -> Result<(), AllocError> {
     for n in 0..map.count(Kind::Vertex) {
         let vertex = map.vertex(n).unwrap();
         if is_between(edge, vertex) {
@@ -85,17 +86,40 @@ fn put_vertices(stops: &mut Vec<Vertex>, map: &Map, edge: &PlacedLine) -> Result
     Ok(())
 }
 
-// Adds the places at which the edge crosses lines.
-fn put_crossings(
+// Adds the place at which the edge crosses the line with the number, if it does.
+fn put_crossing(
     stops: &mut Vec<Vertex>,
     lines: &[PlacedLine],
     edge: &PlacedLine,
+    number: u32,
 ) -> Result<(), AreaError>
-    ensures refused { IfErr result IsOfEdge }
+    requires { number ≤ 65535 }
+    ensures { IfErr result (IsEdgeRefusal lines.now edge.now) }
 {
-    for line in lines {
-        if crosses_way(edge, line) {
-            put_along(stops, edge, crossing(edge, line)?)?;
+    let Some(line) = lines.get(number as usize) else {
+        return Ok(());
+    };
+    if !crosses_way(edge, line) {
+        return Ok(());
+    }
+    let place = crossing(edge, line, number as u16)?;
+    put_along(stops, edge, place)?;
+    Ok(())
+}
+
+// Adds the places at which the edge crosses lines.
+fn put_crossings(
+    stops: &mut Vec<Vertex>,
+    map: &Map,
+    lines: &[PlacedLine],
+    edge: &PlacedLine,
+) -> Result<(), AreaError>
+    ensures { IfErr result (IsEdgeRefusal lines.now edge.now) }
+{
+    for n in 0..map.count(Kind::Line) {
+        match put_crossing(stops, lines, edge, n) {
+            Ok(()) => {}
+            Err(error) => return Err(error),
         }
     }
     Ok(())
@@ -108,13 +132,32 @@ fn stops_of(
     lines: &[PlacedLine],
     edge: &PlacedLine,
 ) -> Result<Vec<Vertex>, AreaError>
-    ensures refused { IfErr result IsOfEdge }
+    ensures { IfErr result (IsEdgeRefusal lines.now edge.now) }
 {
     let mut stops = Vec::new(alloc);
     stops.push(edge.from)?;
     put_vertices(&mut stops, map, edge)?;
-    put_crossings(&mut stops, lines, edge)?;
+    put_crossings(&mut stops, map, lines, edge)?;
     Ok(stops)
+}
+
+// Adds where the edge with this index is cut.
+fn put_stops(
+    alloc: Global,
+    all: &mut Vec<Vertex>,
+    map: &Map,
+    lines: &[PlacedLine],
+    edges: &[PlacedLine],
+    index: usize,
+) -> Result<(), AreaError>
+    ensures { IfErr result (AreEdgesRefused lines.now edges.now) }
+{
+    let Some(edge) = edges.get(index) else {
+        return Ok(());
+    };
+    let stops = stops_of(alloc, map, lines, edge)?;
+    all.extend_from_slice(&stops)?;
+    Ok(())
 }
 
 // Where the edges are cut, in order round the polygon.
@@ -124,12 +167,14 @@ fn all_stops(
     lines: &[PlacedLine],
     edges: &[PlacedLine],
 ) -> Result<Vec<Vertex>, AreaError>
-    ensures refused { IfErr result IsOfEdge }
+    ensures { IfErr result (AreEdgesRefused lines.now edges.now) }
 {
     let mut all = Vec::new(alloc);
-    for edge in edges {
-        let stops = stops_of(alloc, map, lines, edge)?;
-        all.extend_from_slice(&stops)?;
+    for index in 0..edges.len() {
+        match put_stops(alloc, &mut all, map, lines, edges, index) {
+            Ok(()) => {}
+            Err(error) => return Err(error),
+        }
     }
     Ok(all)
 }
@@ -141,9 +186,12 @@ pub(crate) fn border_of(
     lines: &[PlacedLine],
     edges: Vec<PlacedLine>,
 ) -> Result<Border, AreaError>
+    requires { lines.now ≡ placed_lines map.now.tables }
     ensures edges { IfOk result (λ border. border.edges.items ≡ edges.items) }
     ensures doubled { IfOk result (λ border. border.doubled.items ≡ doubled edges.items) }
-    ensures refused { IfErr result IsOfEdge }
+    ensures refused { IfErr result IsOfMap }
+    ensures reason { IfErr result
+        (IsAreaRefusal map.now.tables edges.items (doubled edges.items)) }
 {
     let doubled = twice(alloc, &edges)?;
     let stops = all_stops(alloc, map, lines, &edges)?;

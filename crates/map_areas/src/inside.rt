@@ -55,7 +55,8 @@ pub(crate) fn find_none_inside(
 ) -> Result<(), AreaError>
     requires { lines.now ≡ placed_lines map.now.tables }
     ensures refused { IfErr result IsOfMap }
-    ensures reason { IfErr result (IsAreaRefusal map.now.tables border.now.doubled.items) }
+    ensures reason { IfErr result (IsAreaRefusal map.now.tables border.now.edges.items
+        border.now.doubled.items) }
 {
     for n in 0..map.count(Kind::Line) {
         if is_part_inside(alloc, lines, border, n)? {

@@ -1,14 +1,14 @@
 //! Pillars: polygons with nothing inside.
-ghost use Rattle.std.specs.Prelude.{◌≡◌, All, IfErr, IfOk, false, slice_get};
+ghost use Rattle.std.specs.Prelude.{◌≡◌, ◌&&◌, All, IfErr, IfOk, false, slice_get};
 ghost use Rattle.std.specs.List.{list_any};
 ghost use Rattle.std.specs.Option.{option_map_or};
 ghost use Rattle.map_areas.specs.Drawn.{AreTaken, drawn};
 ghost use Rattle.map_areas.specs.Errors.{IsOfMap};
 ghost use Rattle.map_areas.specs.Outlines.{JudgesCorners, edges_round};
-ghost use Rattle.map_areas.specs.Refusals.{IsPillarRefusal, is_in_the_way, touches};
+ghost use Rattle.map_areas.specs.Refusals.{IsPillarRefusal, are_apart, is_corner_part, is_in_the_way, sector_at, touches};
 ghost use Rattle.map_areas.specs.Stays.{KeepsItems};
 ghost use Rattle.map_commands.specs.Step.{InRange};
-ghost use Rattle.map_plane.specs.Meeting.{is_on};
+ghost use Rattle.map_plane.specs.Meeting.{is_at, is_on};
 ghost use Rattle.map_plane.specs.Places.{placed_lines};
 
 use crate::drawing::{Drawing, drawing_of, vertex_of};
@@ -16,10 +16,11 @@ use crate::error::{AreaError, Part};
 use crate::polygon::polygon;
 use crate::trial::try_commands;
 use crate::walls::{add_side, add_wall, solid_side};
+use crate::ways::is_same;
 use lump_records::{NO_SIDE, Name8, Vertex};
 use map_commands::Command;
 use map_plane::{
-    PlacedLine, crosses, is_inside, is_on, is_on_any, nearest, placed_lines, sector_shown,
+    PlacedLine, crosses, is_at, is_inside, is_on, is_on_any, nearest, placed_lines, sector_shown,
 };
 use map_tables::{Kind, Map, MapError};
 use std::alloc::Global;
@@ -31,21 +32,79 @@ pub struct Pillar {
     pub wall: Name8,
 }
 
+// The sector that a place belongs to.
+fn sector_at(map: &Map, lines: &[PlacedLine], place: Vertex) -> Option<u16>
+    requires { lines.now ≡ placed_lines map.now.tables }
+    ensures { result ≡ sector_at map.now.tables place }
+{
+    sector_shown(map, &nearest(lines, place)?, place)
+}
+
 // The edge, and the sector that its first end belongs to.
-fn part_at(map: &Map, lines: &[PlacedLine], edge: &PlacedLine) -> Part {
-    let sector = match nearest(lines, edge.from) {
-        Some(line) => sector_shown(map, &line, edge.from),
-        None => None,
-    };
+fn part_at(map: &Map, lines: &[PlacedLine], edge: &PlacedLine) -> Part
+    requires { lines.now ≡ placed_lines map.now.tables }
+{
     Part {
         from: edge.from,
         to: edge.to,
-        sector,
+        sector: sector_at(map, lines, edge.from),
+    }
+}
+
+// Whether an edge leads from the one place to the other.
+fn is_edge(edges: &[PlacedLine], part: &Part) -> bool
+    ensures { result
+        ≡ list_any (λ e. is_at e.from part.now.from && is_at e.to part.now.to) edges.now }
+{
+    edges.iter().any(|edge| is_at(edge.from, part.from) && is_at(edge.to, part.to))
+}
+
+// Whether an edge leads so, and its first end belongs to this sector, or to the void.
+fn is_corner_part(map: &Map, lines: &[PlacedLine], edges: &[PlacedLine], part: &Part) -> bool
+    requires { lines.now ≡ placed_lines map.now.tables }
+    ensures { result ≡ is_corner_part map.now.tables edges.now part.now }
+{
+    is_edge(edges, part) && is_same(sector_at(map, lines, part.from), part.sector)
+}
+
+// Whether the two are corners, and the second one belongs to no sector, or to another one than the first.
+fn are_apart(
+    map: &Map,
+    lines: &[PlacedLine],
+    edges: &[PlacedLine],
+    first: &Part,
+    second: &Part,
+) -> bool
+    requires { lines.now ≡ placed_lines map.now.tables }
+    ensures { result ≡ are_apart map.now.tables edges.now first.now second.now }
+{
+    is_corner_part(map, lines, edges, first)
+        && is_corner_part(map, lines, edges, second)
+        && (second.sector.is_none() || !is_same(first.sector, second.sector))
+}
+
+// The refusal of a pillar for two of its corners.
+fn apart(
+    map: &Map,
+    lines: &[PlacedLine],
+    edges: &[PlacedLine],
+    first: Part,
+    second: Part,
+) -> AreaError
+    requires { lines.now ≡ placed_lines map.now.tables }
+    ensures refused { IsOfMap result }
+    ensures reason { IsPillarRefusal map.now.tables edges.now result }
+{
+    if are_apart(map, lines, edges, &first, &second) {
+        AreaError::SeveralSectors { first, second }
+    } else {
+        AreaError::OutOfRange
     }
 }
 
 // The sector that all corners belong to.
 fn sector_of(map: &Map, lines: &[PlacedLine], edges: &[PlacedLine]) -> Result<u16, AreaError>
+    requires { lines.now ≡ placed_lines map.now.tables }
     ensures refused { IfErr result IsOfMap }
     ensures reason { IfErr result (IsPillarRefusal map.now.tables edges.now) }
 {
@@ -54,10 +113,7 @@ fn sector_of(map: &Map, lines: &[PlacedLine], edges: &[PlacedLine]) -> Result<u1
         let part = part_at(map, lines, edge);
         let first_part = first.unwrap_or(part);
         if part.sector.is_none() || part.sector != first_part.sector {
-            return Err(AreaError::SeveralSectors {
-                first: first_part,
-                second: part,
-            });
+            return Err(apart(map, lines, edges, first_part, part));
         }
         first = Some(first_part);
     }

@@ -212,8 +212,8 @@ fn is_faced(map: &Map, lines: &[PlacedLine], way: &PlacedLine, sector: Option<u1
     lines.iter().any(|line| faces_left(map, way, sector, line))
 }
 
-// Whether one of the lines runs along the way.
-fn is_lined(lines: &[PlacedLine], way: &PlacedLine) -> bool
+/// Whether one of the lines runs along the way.
+pub(crate) fn is_lined(lines: &[PlacedLine], way: &PlacedLine) -> bool
     ensures { result ≡ list_any (runs_along way.now) lines.now }
 {
     lines.iter().any(|line| runs_along(way, line))

@@ -45,10 +45,11 @@ RefusesChange m c e =
     (λ item. project_fault_of (changed_line c.kind c.number (parts c.fields.now) (item_words item))
     ≡ Some (code_of e))
 
--- the commands are those that make the sector a door, and nothing refuses them
+-- the commands are those that make the sector a door, nothing refuses them, and each is accepted in turn
 abbrev pub MakesDoor : Tables → Door → List Command → Type 0
 MakesDoor m d commands = (least (door_faults m d) ≡ None)
     × (option_map (door_commands m d) (slice_get m.sectors d.sector) ≡ Some commands)
+    × AreTaken m commands
 
 -- the commands are those that draw the shape onto the map
 abbrev pub Becomes : Tables → Shape → List Command → Type 0

@@ -5,6 +5,7 @@ ghost use Rattle.lump_records.specs.Sides.{has_left};
 ghost use Rattle.map_commands.specs.Step.{InRange};
 ghost use Rattle.map_tables.specs.Outcomes.{least};
 ghost use Rattle.map_tables.specs.Ranges.{IsLine, IsSector, IsSide};
+ghost use Rattle.map_areas.specs.Drawn.{AreTaken};
 ghost use Rattle.map_shapes.specs.Doors.{IsDoor, IsJamb, door_commands, door_faults, is_shared, is_wall_of, jamb_of, line_commands, sides_added, lines_sides, opening, opening_jamb, side_faces, turned_line, wall_jamb, with_lower_pegged};
 ghost use Rattle.map_shapes.specs.Errors.{code_of, no_memory};
 
@@ -332,6 +333,7 @@ pub fn door_commands(alloc: Global, map: &Map, door: &Door) -> Result<Vec<Comman
     ensures ok { IfOk result (λ v. (least (door_faults map.now.tables door.now) ≡ None)
         × (option_map (door_commands map.now.tables door.now)
         (slice_get map.now.tables.sectors door.now.sector) ≡ Some v.items)) }
+    ensures taken { IfOk result (λ v. AreTaken map.now.tables v.items) }
     ensures refused { IfErr result (λ e. (e ≡ no_memory)
         ⊎ (least (door_faults map.now.tables door.now) ≡ Some (code_of e))) }
 {
