@@ -1,5 +1,5 @@
--- Where an edge crosses a line: how far that is along the edge, and what it means if it is at no whole place.
-use Rattle.std.proofs.Common.{◌≡◌, ◌<◌, ⊎_elim, add-zero, ◌%◌, refl, sym, ap, ◌∙◌, subst, ℕ, zero, suc, ◌+◌, ◌*◌, List, [], ◌∷◌, Bool, true, false, ◌&&◌, ◌||◌, Some, slice_get, arith}
+-- Where an edge crosses a line: how far that is along the edge, if it is a whole place.
+use Rattle.std.proofs.Common.{◌≡◌, ◌<◌, ⊎_elim, add-zero, ◌%◌, refl, sym, ap, ◌∙◌, subst, ℕ, zero, suc, ◌+◌, ◌*◌, [], ◌∷◌, true, ◌&&◌, ◌||◌, arith}
 use Rattle.std.proofs.lemmas.Bool.Decides.{Decides-int_eq}
 use Rattle.std.proofs.lemmas.Int.{ints}
 use Rattle.std.proofs.lemmas.Nat.{mod-mul-add}
@@ -10,14 +10,8 @@ use Rattle.lump_records.proofs.Ring.{by_ring, quotes}
 use Rattle.lump_records.specs.declared.records.Vertex.{Vertex}
 use Rattle.map_plane.proofs.Tests.{and_both, lt_says, or_either}
 use Rattle.map_plane.specs.Meeting.{boxes_meet, has_on_both_sides, is_on, side_value_at, spans_meet}
-use Rattle.map_plane.specs.Places.{placed_lines}
 use Rattle.map_plane.specs.declared.places.PlacedLine.{PlacedLine}
-use Rattle.map_tables.specs.Tables.{Tables}
-use Rattle.map_areas.specs.Errors.{IsOfMap}
-use Rattle.map_areas.specs.Refusals.{AreEdgesRefused, HaveNoPlace, IsAreaRefusal, IsEdgeRefusal}
 use Rattle.map_areas.specs.Ways.{crosses_way}
-use Rattle.map_areas.specs.declared.error.AreaError.{AreaError}
-use Rattle.map_areas.specs.declared.error.AreaError.TheVariants.{OutOfRange, NotAPolygon, Crossing, SeveralSectors, NotEmpty, OverVertex, Refused, OutOfMemory}
 
 abs_neg : (n : ℕ) → nat_abs (neg_ℤ (pos n)) ≡ n
 abs_neg zero = refl
@@ -76,42 +70,6 @@ pub in_sizes : (u d a b : ℤ) → ((int_lt a (pos 0) && int_lt (pos 0) b) || (i
 in_sizes u d a b s e =
     ap (λ (x : ℕ). nat_abs u * x) (sym (abs_apart a b s)) ∙ sym (abs_product u (a -ℤ b)) ∙ ap nat_abs e ∙ abs_product d a
 
--- ---- Refusals
-
--- the refusal of an edge is one of the outline
-pub of_edge : (ls es : List PlacedLine) (e : PlacedLine) (k : ℕ) (error : AreaError) → slice_get es k ≡ Some e
-    → IsEdgeRefusal ls e error → AreEdgesRefused ls es error
-of_edge ls es e k OutOfRange is r = tt
-of_edge ls es e k (NotAPolygon corner) is r = absurd r
-of_edge ls es e k (Crossing line near) is r = (k, e, is, r)
-of_edge ls es e k (SeveralSectors first second) is r = absurd r
-of_edge ls es e k (NotEmpty line) is r = absurd r
-of_edge ls es e k (OverVertex vertex) is r = absurd r
-of_edge ls es e k (Refused error) is r = absurd r
-of_edge ls es e k OutOfMemory is r = tt
-
--- and one of an area
-pub of_edges : (m : Tables) (es ds : List PlacedLine) (error : AreaError) → AreEdgesRefused (placed_lines m) es error
-    → IsAreaRefusal m es ds error
-of_edges m es ds OutOfRange r = tt
-of_edges m es ds (NotAPolygon corner) r = tt
-of_edges m es ds (Crossing line near) r = r
-of_edges m es ds (SeveralSectors first second) r = absurd r
-of_edges m es ds (NotEmpty line) r = absurd r
-of_edges m es ds (OverVertex vertex) r = absurd r
-of_edges m es ds (Refused error) r = tt
-of_edges m es ds OutOfMemory r = tt
-
-pub edges_of_map : (ls es : List PlacedLine) (error : AreaError) → AreEdgesRefused ls es error → IsOfMap error
-edges_of_map ls es OutOfRange r = tt
-edges_of_map ls es (NotAPolygon corner) r = r
-edges_of_map ls es (Crossing line near) r = tt
-edges_of_map ls es (SeveralSectors first second) r = tt
-edges_of_map ls es (NotEmpty line) r = tt
-edges_of_map ls es (OverVertex vertex) r = tt
-edges_of_map ls es (Refused error) r = tt
-edges_of_map ls es OutOfMemory r = tt
-
 -- ---- Whole places
 
 -- a place on a line is at its straight line
@@ -154,12 +112,3 @@ whole_y l k p c ol ok =
     in_sizes (p.y -ℤ l.from.y) (l.to.y -ℤ l.from.y) (side_value_at k l.from) (side_value_at k l.to) (crossed_sides l k c)
     (without_zeros (p.y -ℤ l.from.y) (l.to.y -ℤ l.from.y) (k.to.y -ℤ k.from.y) (side_value_at k l.from) (side_value_at k l.to) (side_value_at k p) (side_value_at l p)
     (along_y (k.to.x -ℤ k.from.x) (k.to.y -ℤ k.from.y) k.from.x k.from.y l.from.x l.from.y l.to.x l.to.y p.x p.y) (on_line k p ok) (on_line l p ol))
-
--- a crossing that may not be at a whole place is at none
-pub no_place : (e l : PlacedLine) (b : Bool) → b ≡ false → ((p : Vertex) → is_on e p ≡ true → is_on l p ≡ true → b ≡ true) → HaveNoPlace e l
-no_place e l b f h p = by_values (is_on e p) (is_on l p) (h p)
-  where
-    by_values : (x y : Bool) → (x ≡ true → y ≡ true → b ≡ true) → (x && y) ≡ false
-    by_values true true g = let t = g refl refl in cc
-    by_values true false g = refl
-    by_values false y g = refl

@@ -1,10 +1,10 @@
 -- What a refusal of a shape says of the map.
-use Rattle.std.specs.Prelude.{◌≡◌, ℕ, Bool, true, false, ◌&&◌, ◌||◌, not, All, List, Option, Some, is_none, option_and_then, slice_get}
+use Rattle.std.specs.Prelude.{◌≡◌, ℕ, Bool, true, false, ◌&&◌, ◌||◌, not, All, List, Some, is_none, slice_get}
 use Rattle.std.specs.List.{list_any}
 use Rattle.std.specs.Option.{option_map_or}
 use Rattle.lump_records.specs.declared.records.Vertex.{Vertex}
 use Rattle.map_plane.specs.Meeting.{ends_at, has_on_both_sides, is_at, is_on}
-use Rattle.map_plane.specs.Nearest.{nearest, sector_shown}
+use Rattle.map_plane.specs.Nearest.{sector_of_place}
 use Rattle.map_plane.specs.Places.{placed_lines}
 use Rattle.map_plane.specs.Polygon.{is_inside}
 use Rattle.map_plane.specs.declared.places.PlacedLine.{PlacedLine}
@@ -33,22 +33,18 @@ abbrev pub IsVertexUnder : Tables → List PlacedLine → ℕ → Type 0
 IsVertexUnder m es n =
     option_map_or (λ v. list_any (λ e. is_on e v) es) (slice_get m.vertices n) false ≡ true
 
--- the sector that a place belongs to: what the nearest line shows it
-abbrev pub sector_at : Tables → Vertex → Option ℕ
-sector_at m p = option_and_then (sector_shown m p) (nearest (placed_lines m) p)
-
 -- an edge leads from one place to the other, and the first one belongs to the sector that is told, or to the void
 abbrev pub is_corner_part : Tables → List PlacedLine → Part → Bool
 is_corner_part m es p = list_any (λ e. is_at e.from p.from && is_at e.to p.to) es
-    && is_same (sector_at m p.from) p.sector
+    && is_same (sector_of_place m p.from) p.sector
 
 -- the second of two corners belongs to no sector, or to another one than the first
 abbrev pub are_apart : Tables → List PlacedLine → Part → Part → Bool
 are_apart m es first second = is_corner_part m es first && is_corner_part m es second
     && (is_none second.sector || not (is_same first.sector second.sector))
 
--- a pillar is refused with 27 only if its corners aren't in one sector, with 28 only if a line isn't wholly outside or a
--- vertex lies under an edge, and never with 26
+-- a pillar is refused with 27 only if its corners aren't in one sector, with 28 only if a line isn't wholly outside or
+-- a vertex lies under an edge, and never with 26
 abbrev pub IsPillarRefusal : Tables → List PlacedLine → AreaError → Type 0
 IsPillarRefusal m es (Crossing line near) = ⊥
 IsPillarRefusal m es (SeveralSectors first second) = are_apart m es first second ≡ true

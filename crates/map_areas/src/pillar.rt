@@ -5,7 +5,7 @@ ghost use Rattle.std.specs.Option.{option_map_or};
 ghost use Rattle.map_areas.specs.Drawn.{AreTaken, drawn};
 ghost use Rattle.map_areas.specs.Errors.{IsOfMap};
 ghost use Rattle.map_areas.specs.Outlines.{JudgesCorners, edges_round};
-ghost use Rattle.map_areas.specs.Refusals.{IsPillarRefusal, are_apart, is_corner_part, is_in_the_way, sector_at, touches};
+ghost use Rattle.map_areas.specs.Refusals.{IsPillarRefusal, are_apart, is_corner_part, is_in_the_way, touches};
 ghost use Rattle.map_areas.specs.Stays.{KeepsItems};
 ghost use Rattle.map_commands.specs.Step.{InRange};
 ghost use Rattle.map_plane.specs.Meeting.{is_at, is_on};
@@ -19,9 +19,7 @@ use crate::walls::{add_side, add_wall, solid_side};
 use crate::ways::is_same;
 use lump_records::{NO_SIDE, Name8, Vertex};
 use map_commands::Command;
-use map_plane::{
-    PlacedLine, crosses, is_at, is_inside, is_on, is_on_any, nearest, placed_lines, sector_shown,
-};
+use map_plane::{PlacedLine, crosses, is_at, is_inside, is_on, is_on_any, placed_lines, sector_at};
 use map_tables::{Kind, Map, MapError};
 use std::alloc::Global;
 
@@ -32,22 +30,12 @@ pub struct Pillar {
     pub wall: Name8,
 }
 
-// The sector that a place belongs to.
-fn sector_at(map: &Map, lines: &[PlacedLine], place: Vertex) -> Option<u16>
-    requires { lines.now ≡ placed_lines map.now.tables }
-    ensures { result ≡ sector_at map.now.tables place }
-{
-    sector_shown(map, &nearest(lines, place)?, place)
-}
-
 // The edge, and the sector that its first end belongs to.
-fn part_at(map: &Map, lines: &[PlacedLine], edge: &PlacedLine) -> Part
-    requires { lines.now ≡ placed_lines map.now.tables }
-{
+fn part_at(map: &Map, edge: &PlacedLine) -> Part {
     Part {
         from: edge.from,
         to: edge.to,
-        sector: sector_at(map, lines, edge.from),
+        sector: sector_at(map, edge.from),
     }
 }
 
@@ -60,42 +48,27 @@ fn is_edge(edges: &[PlacedLine], part: &Part) -> bool
 }
 
 // Whether an edge leads so, and its first end belongs to this sector, or to the void.
-fn is_corner_part(map: &Map, lines: &[PlacedLine], edges: &[PlacedLine], part: &Part) -> bool
-    requires { lines.now ≡ placed_lines map.now.tables }
+fn is_corner_part(map: &Map, edges: &[PlacedLine], part: &Part) -> bool
     ensures { result ≡ is_corner_part map.now.tables edges.now part.now }
 {
-    is_edge(edges, part) && is_same(sector_at(map, lines, part.from), part.sector)
+    is_edge(edges, part) && is_same(sector_at(map, part.from), part.sector)
 }
 
 // Whether the two are corners, and the second one belongs to no sector, or to another one than the first.
-fn are_apart(
-    map: &Map,
-    lines: &[PlacedLine],
-    edges: &[PlacedLine],
-    first: &Part,
-    second: &Part,
-) -> bool
-    requires { lines.now ≡ placed_lines map.now.tables }
+fn are_apart(map: &Map, edges: &[PlacedLine], first: &Part, second: &Part) -> bool
     ensures { result ≡ are_apart map.now.tables edges.now first.now second.now }
 {
-    is_corner_part(map, lines, edges, first)
-        && is_corner_part(map, lines, edges, second)
+    is_corner_part(map, edges, first)
+        && is_corner_part(map, edges, second)
         && (second.sector.is_none() || !is_same(first.sector, second.sector))
 }
 
 // The refusal of a pillar for two of its corners.
-fn apart(
-    map: &Map,
-    lines: &[PlacedLine],
-    edges: &[PlacedLine],
-    first: Part,
-    second: Part,
-) -> AreaError
-    requires { lines.now ≡ placed_lines map.now.tables }
+fn apart(map: &Map, edges: &[PlacedLine], first: Part, second: Part) -> AreaError
     ensures refused { IsOfMap result }
     ensures reason { IsPillarRefusal map.now.tables edges.now result }
 {
-    if are_apart(map, lines, edges, &first, &second) {
+    if are_apart(map, edges, &first, &second) {
         AreaError::SeveralSectors { first, second }
     } else {
         AreaError::OutOfRange
@@ -103,17 +76,16 @@ fn apart(
 }
 
 // The sector that all corners belong to.
-fn sector_of(map: &Map, lines: &[PlacedLine], edges: &[PlacedLine]) -> Result<u16, AreaError>
-    requires { lines.now ≡ placed_lines map.now.tables }
+fn sector_of(map: &Map, edges: &[PlacedLine]) -> Result<u16, AreaError>
     ensures refused { IfErr result IsOfMap }
     ensures reason { IfErr result (IsPillarRefusal map.now.tables edges.now) }
 {
     let mut first: Option<Part> = None;
     for edge in edges {
-        let part = part_at(map, lines, edge);
+        let part = part_at(map, edge);
         let first_part = first.unwrap_or(part);
         if part.sector.is_none() || part.sector != first_part.sector {
-            return Err(apart(map, lines, edges, first_part, part));
+            return Err(apart(map, edges, first_part, part));
         }
         first = Some(first_part);
     }
@@ -233,7 +205,7 @@ fn commands_within(
     ensures reason { IfErr result (IsPillarRefusal map.now.tables edges.now) }
 {
     let lines = placed_lines(alloc, map)?;
-    let sector = sector_of(map, &lines, edges)?;
+    let sector = sector_of(map, edges)?;
     find_no_line(map, &lines, edges)?;
     find_no_vertex(map, edges)?;
     let mut drawing = drawing_of(alloc, map)?;
