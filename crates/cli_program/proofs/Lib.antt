@@ -7,3 +7,4 @@ pub mod Scripted
 pub mod Scripts
 pub mod SourceDone
 pub mod Sources
+pub mod TypedLines

@@ -12,4 +12,5 @@ pub mod ScriptMaps
 pub mod SomeSource
 pub mod SourceDeeds
 pub mod Sources
+pub mod Typed
 pub mod Wads

@@ -20,5 +20,8 @@ mod rebuild_request;
 mod salvage_request;
 mod script_file;
 mod script_maps;
+mod typed;
+mod typing;
 
 pub use program::perform;
+pub use typed::{perform_typed, takes_lines};

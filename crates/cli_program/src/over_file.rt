@@ -41,9 +41,13 @@ where
     }
 }
 
-// The file that a request writes, held until it is dropped, which knows why its last call failed; or notes why it can't
-// be opened.
-fn file_at<E: Files>(rt: &E, path: &str, why: &mut Causes) -> Result<NotedFile<E::File>, Refusal>
+/// The file that a request writes, held until it is dropped, which knows why its last call failed; or notes why it
+/// can't be opened.
+pub fn file_at<E: Files>(
+    rt: &E,
+    path: &str,
+    why: &mut Causes,
+) -> Result<NotedFile<E::File>, Refusal>
 where
     E::File: Hold,
     ensures { IfErr result (λ r. r ≡ Refusal.Project ProjectError.Device) }

@@ -16,6 +16,7 @@ use Rattle.cli_refusals.specs.declared.refusal.Refusal.{Refusal}
 use Rattle.cli_program.specs.Deeds.{IsPerformed}
 use Rattle.cli_program.specs.Kinds.{IsQuiet}
 use Rattle.cli_program.specs.Notes.{HasToldNotes}
+use Rattle.cli_program.specs.Typed.{IsTyped}
 use Rattle.leveled.specs.Finding.{AreFound}
 use Rattle.store_disk.specs.declared.disk.Disk.{Ghosts}
 
@@ -50,6 +51,22 @@ IsRequestDone disk request status input-old input-new output-old output-new erro
     × (IsQuiet request status → Keeps errors-old errors-new)
     × HasToldNotes request status output-old output-new errors-old errors-new
 
+-- the status is that of the request, to which a person typed lines; of standard input and output it
+-- read and wrote what that says
+abbrev pub IsRequestTyped : {D : Type 0} → Ghosts D → Request → ℕ → Option (List ℕ)
+    → Option (List ℕ) → Option (List ℕ) → Option (List ℕ) → Type 0
+IsRequestTyped disk request status input-old input-new output-old output-new =
+    (how : Result ℕ Refusal) × (status ≡ status_in how)
+    × IsTyped disk request how input-old input-new output-old output-new
+
+-- the same of a request that was done from a terminal or not
+abbrev pub IsDoneAnyway : {D : Type 0} → Ghosts D → Request → ℕ → Option (List ℕ) → Option (List ℕ)
+    → Option (List ℕ) → Option (List ℕ) → Option (List ℕ) → Option (List ℕ) → Type 0
+IsDoneAnyway disk request status input-old input-new output-old output-new errors-old errors-new =
+    IsRequestDone disk request status input-old input-new output-old output-new errors-old
+    errors-new
+    ⊎ IsRequestTyped disk request status input-old input-new output-old output-new
+
 -- the words are a request, which was done so, with the paths at which its WADs are found; or they
 -- are none, and the status says so
 abbrev pub IsAnswered : {D : Type 0} → Ghosts D → List Text → ℕ → Option (List ℕ) → Option (List ℕ)
@@ -57,6 +74,6 @@ abbrev pub IsAnswered : {D : Type 0} → Ghosts D → List Text → ℕ → Opti
 IsAnswered disk words status input-old input-new output-old output-new errors-old errors-new =
     ((asked : Request) × Asks words asked
     × (request : Request) × AreFound asked request
-    × IsRequestDone disk request status input-old input-new output-old output-new errors-old
+    × IsDoneAnyway disk request status input-old input-new output-old output-new errors-old
     errors-new)
     ⊎ ((error : RequestError) × IsRefusal words error × EndsWords error status)

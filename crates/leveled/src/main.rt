@@ -1,8 +1,8 @@
-//! The program `leveled`: passes its arguments to `request`, and the request to `perform`.
+//! The program `leveled`: passes its arguments to `request`, and the request to `perform` or `perform_typed`.
 #![tactic(auto)]
 
 ghost use Rattle.std.specs.Prelude.{◌≡◌, ◌≤◌, IsTrue, if◌then◌else◌, map};
-ghost use Rattle.leveled.specs.Answers.{AsksForHelp, EndsWords, IsAnswered};
+ghost use Rattle.leveled.specs.Answers.{AsksForHelp, EndsWords, IsAnswered, IsDoneAnyway};
 
 mod finding;
 
@@ -10,7 +10,7 @@ use crate::finding::with_found;
 use clap::Error;
 use clap::error::ErrorKind;
 use cli_files::NotedFile;
-use cli_program::perform;
+use cli_program::{perform, perform_typed, takes_lines};
 use cli_words::{CODES, RULE_WORDS, Request, RequestError, SCRIPTS, Topic, request};
 use lump_text::write_shown_lines;
 use std::env::{self, Env, FillError};
@@ -168,25 +168,51 @@ fn refuse(rt: &HostRuntime, error: &RequestError) -> u8
     }
 }
 
-// Whether the request reads lines from standard input and answers them.
-fn reads_lines(request: &Request) -> bool {
-    matches!(request, Request::Scratch | Request::Edit { .. })
-}
-
 // Whether a person types standard input and sees standard error.
 fn is_at_terminal(rt: &HostRuntime) -> bool {
     rt.stdin().is_terminal() && rt.stderr().is_terminal()
 }
 
+// Whether a person types standard input and sees standard output.
+fn is_typed(rt: &HostRuntime) -> bool {
+    rt.stdin().is_terminal() && rt.stdout().is_terminal()
+}
+
 // Tells a person at a terminal how to give commands, before the first one is read.
 fn greet(rt: &HostRuntime, request: &Request) {
-    if reads_lines(request) && is_at_terminal(rt) {
-        let _ = eprintln!(rt; "one command a line; Ctrl-D ends; man leveled");
+    if !takes_lines(request) || !is_at_terminal(rt) {
+        return;
     }
+    let _ = if is_typed(rt) {
+        eprintln!(rt; "one command a line; help lists them; quit or Ctrl-D ends")
+    } else {
+        eprintln!(rt; "one command a line; Ctrl-D ends; man leveled")
+    };
+}
+
+// Does what a request asks for, with standard input, output and error passed in, and returns the status. Lines that a
+// person types get help and reasons as well; what a pipe or a file gives or takes is the same each time.
+fn done<R: Read, W: Write, F: Write>(
+    rt: &HostRuntime,
+    request: &Request,
+    reader: &mut R,
+    writer: &mut W,
+    faults: &mut F,
+) -> u8
+    ensures status { result ≤ 3 }
+    ensures done { IsDoneAnyway ⟦<FileDisk<&'static NotedFile<File>> as Disk>⟧ request.now result
+        (R.remaining reader.old) (R.remaining reader.new)
+        (W.contents writer.old) (W.contents writer.new)
+        (F.contents faults.old) (F.contents faults.new) }
+{
+    if takes_lines(request) && is_typed(rt) {
+        return perform_typed(rt, request, reader, writer, faults);
+    }
+    perform(rt, request, reader, writer, faults)
 }
 
 // Does what the arguments ask for, with standard input, output and error passed in, and returns the status: that of
-// `perform`, or that of words which are no request.
+// the request, or that of words which are no request.
 fn answer<R: Read, W: Write, F: Write>(
     rt: &HostRuntime,
     words: &[&str],
@@ -205,7 +231,7 @@ fn answer<R: Read, W: Write, F: Write>(
         Ok(asked) => {
             let request = with_found(rt, asked);
             greet(rt, &request);
-            perform(rt, &request, reader, writer, faults)
+            done(rt, &request, reader, writer, faults)
         }
         Err(error) => refuse(rt, &error),
     }

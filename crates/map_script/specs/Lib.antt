@@ -2,6 +2,7 @@ pub mod Ats
 pub mod Cuts
 pub mod Defines
 pub mod Errors
+pub mod Files
 pub mod Firsts
 pub mod Frames
 pub mod Held

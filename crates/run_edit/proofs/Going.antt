@@ -78,10 +78,10 @@ pub line-of-none : (kept part : List ℕ) → IsBegun kept part → length kept 
 line-of-none kept [] begun none = refl
 line-of-none kept (b ∷ part) begun none = let e : length kept ≡ length (take 257 (b ∷ part)) = ap length begun.front in absurd (omega arith)
 
-whole-at : (bs : List ℕ) (b : ℕ) → b ≡ 10 → list_any is_break bs ≡ false → whole_lines (bs ++ b ∷ []) ≡ bs ∷ []
+pub whole-at : (bs : List ℕ) (b : ℕ) → b ≡ 10 → list_any is_break bs ≡ false → whole_lines (bs ++ b ∷ []) ≡ bs ∷ []
 whole-at bs b e f = rw e (whole-end bs f)
 
-unfinished-at : (bs : List ℕ) (b : ℕ) → b ≡ 10 → unfinished (bs ++ b ∷ []) ≡ []
+pub unfinished-at : (bs : List ℕ) (b : ℕ) → b ≡ 10 → unfinished (bs ++ b ∷ []) ≡ []
 unfinished-at bs b e = rw e (unfinished-end bs)
 
 -- ---- Lines that were taken, and more of them
@@ -273,7 +273,7 @@ module _ {S : Type 0} (goes : S → List Exchange → S → Type 0) (then_more :
 
   -- ---- The end of a run
 
-  all_answered : (trace : List Exchange) (lines left : List (List ℕ)) (u w : Option (List ℕ)) → none_waits left → lines ≡ lines_in trace ++ left → Appends u w (output_of trace) → Answered trace lines u w
+  pub all_answered : (trace : List Exchange) (lines left : List (List ℕ)) (u w : Option (List ℕ)) → none_waits left → lines ≡ lines_in trace ++ left → Appends u w (output_of trace) → Answered trace lines u w
   all_answered trace lines left u w none is wrote = record {
     asked = sym (is ∙ ap (λ (z : List (List ℕ)). lines_in trace ++ z) none ∙ append-nil (lines_in trace));
     output = wrote;

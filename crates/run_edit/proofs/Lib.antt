@@ -14,3 +14,4 @@ pub mod LineCalls
 pub mod GroupCalls
 pub mod Waiting
 pub mod Settling
+pub mod Traces

@@ -16,7 +16,7 @@ use Rattle.run_edit.specs.Texts.{outcome_text}
 use Rattle.run_edit.specs.declared.query.Query.{Query}
 
 -- texts of different lengths are different
-bytes-differ : (xs ys : List ℕ) → length ys < length xs → bytes_eq xs ys ≡ false
+pub bytes-differ : (xs ys : List ℕ) → length ys < length xs → bytes_eq xs ys ≡ false
 bytes-differ [] [] lt = absurd (omega arith)
 bytes-differ [] (y ∷ ys) lt = absurd (omega arith)
 bytes-differ (x ∷ xs) [] lt = refl

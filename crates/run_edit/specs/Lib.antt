@@ -10,5 +10,6 @@ pub mod Queries
 pub mod Recovery
 pub mod Runs
 pub mod Sessions
+pub mod Spoken
 pub mod Texts
 pub mod Told

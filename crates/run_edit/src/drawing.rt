@@ -54,8 +54,15 @@ impl Drawing {
         }
     }
 
-    // Applies a line that is no query, and returns its number or the refusal's code.
-    fn change(&mut self, line: &[u8]) -> Result<u32, u16>
+    /// The maps as they are.
+    pub fn maps(&self) -> &Maps
+        ensures { project_of result.now ≡ self.now }
+    {
+        &self.maps
+    }
+
+    /// Applies a line that is no query, and returns its number or the refusal's code.
+    pub fn change(&mut self, line: &[u8]) -> Result<u32, u16>
         ensures { ChangesBy LONGEST_BODY self.old line.now result self.new }
     {
         let command = match parse(line) {
@@ -79,8 +86,8 @@ impl Drawing {
     }
 }
 
-// Answers a line. `line` is at most its first 257 bytes.
-fn answer_line<W: Write>(
+/// Answers a line. `line` is at most its first 257 bytes.
+pub fn answer_line<W: Write>(
     alloc: Global,
     drawing: &mut Drawing,
     line: &[u8],

@@ -31,8 +31,8 @@ pub fn outcome_in(ended: Result<u32, ProjectError>) -> Result<u32, u16>
     }
 }
 
-// Applies a line that is no query, and returns its number or the refusal's code.
-fn change<D: Disk>(project: &mut Project<D>, line: &[u8]) -> Result<u32, u16>
+/// Applies a line that is no query, and returns its number or the refusal's code.
+pub fn change<D: Disk>(project: &mut Project<D>, line: &[u8]) -> Result<u32, u16>
     ensures { (answer : Result ℕ ProjectError)
         × Applies D.Disk project.old line.now answer project.new
         × (result ≡ outcome_in answer) }

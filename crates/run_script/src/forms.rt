@@ -1,7 +1,7 @@
 //! The forms of commands and queries, and the ranges of their numbers, as they are shown to people.
 
 /// The form of each command and each query: its first word, then a name for each further word, as in docs/COMMANDS.md.
-const FORMS: &[&str] = &[
+pub const FORMS: &[&str] = &[
     "name MARKER",
     "map MARKER",
     "drop-map MARKER",

@@ -22,6 +22,8 @@ mod scratch;
 #[cfg(test)]
 mod scripts;
 #[cfg(test)]
+mod typed;
+#[cfg(test)]
 mod wads;
 #[cfg(test)]
 mod words;

@@ -1,0 +1,139 @@
+//! `scratch` as a person types to it: what each line gets, what is said of a refused one, and how the session ends.
+
+use cli_program::perform_typed;
+use cli_words::Request;
+use std::io::{Read, Write};
+use std::test::Fail;
+use tests_runs::streams::{Drip, Held, Narrow};
+
+// What is typed, what standard output has then, and what standard error.
+const SESSIONS: &[(&[u8], &[u8], &[u8])] = &[
+    (b"", b"", b""),
+    (b"vertex 0 0\nvertex 64 0", b"ok 0\nok 1\n", b""),
+    (
+        b"vertex 0 0\nvertex 0 0\nvertex 64 0\n",
+        b"ok 0\nno 10\nok 1\n",
+        b"  vertex 0 stands at 0 0\n",
+    ),
+    (
+        b"splitt 0 1 1\n",
+        b"no 1\n",
+        b"  perhaps this is meant: split LINE X Y\n",
+    ),
+    (
+        b"vertex  0 0\n",
+        b"no 1\n",
+        b"  perhaps this is meant: vertex 0 0\n",
+    ),
+    (
+        b"vertex 0 0 # a corner\n",
+        b"no 1\n",
+        b"  perhaps this is meant: vertex 0 0\n",
+    ),
+    (
+        b"vertex $a.vertex 0\nlet a 1\narea 0 1\n",
+        b"no 1\nno 1\nno 1\n",
+        b"  names, shapes and blocks are for scripts, which draw takes\n\
+          \x20 names, shapes and blocks are for scripts, which draw takes\n\
+          \x20 names, shapes and blocks are for scripts, which draw takes\n",
+    ),
+    (
+        b"\n",
+        b"no 1\n",
+        b"  a line is a command or a query: help lists them\n",
+    ),
+    (b"quit\nvertex 0 0\n", b"", b""),
+    (b"vertex 0 0\nexit\nvertex 64 0\n", b"ok 0\n", b""),
+    (b"vertex 0 0\nquit", b"ok 0\n", b""),
+    (
+        b"help split\ncheck\n",
+        b"split LINE X Y\n  LINE 0 to 32766\n  X -16384 to 16383\n  Y -16384 to 16383\nno player start\nfindings 1\n",
+        b"",
+    ),
+    (
+        b"help delete\nhelp castle\n",
+        b"no such line; perhaps this is meant: drop KIND NUMBER\nno such line; help lists them\n",
+        b"",
+    ),
+];
+
+// The status of a session over this reader; it must print this on standard error.
+fn typed<R: Read, W: Write>(
+    rt: &HostRuntime,
+    reader: &mut R,
+    writer: &mut W,
+    said: &[u8],
+) -> Result<u8, Fail> {
+    let mut faults = Vec::new(rt.alloc());
+    let status = perform_typed(rt, &Request::Scratch, reader, writer, &mut faults);
+    if faults.as_slice() == said {
+        Ok(status)
+    } else {
+        Err(Fail::from("other faults"))
+    }
+}
+
+// The status of a session, and its output.
+fn written<R: Read>(rt: &HostRuntime, reader: &mut R, said: &[u8]) -> Result<(u8, Vec<u8>), Fail> {
+    let mut out = Vec::new(rt.alloc());
+    let status = typed(rt, reader, &mut out, said)?;
+    Ok((status, out))
+}
+
+#[test]
+fn answers_what_is_pasted(rt: HostRuntime) -> Result<(), Fail> {
+    for &(lines, answers, said) in SESSIONS {
+        let mut reader = lines;
+        let (status, out) = written(&rt, &mut reader, said)?;
+        assert_eq!(rt; (status, out.as_slice()), (0, answers));
+    }
+    Ok(())
+}
+
+#[test]
+fn answers_what_comes_byte_by_byte(rt: HostRuntime) -> Result<(), Fail> {
+    for &(lines, answers, said) in SESSIONS {
+        let (status, out) = written(&rt, &mut Drip::of(lines, false), said)?;
+        assert_eq!(rt; (status, out.as_slice()), (0, answers));
+    }
+    Ok(())
+}
+
+#[test]
+fn leaves_what_is_behind_quit(rt: HostRuntime) -> Result<(), Fail> {
+    let mut reader = b"vertex 0 0\nquit\nls\n".as_slice();
+    let (status, out) = written(&rt, &mut reader, b"")?;
+    assert_eq!(rt; (status, out.as_slice()), (0, b"ok 0\n".as_slice()));
+    assert_eq!(rt; reader, b"ls\n".as_slice());
+    Ok(())
+}
+
+#[test]
+fn flushes_each_answer(rt: HostRuntime) -> Result<(), Fail> {
+    let mut writer = Held {
+        held: Vec::new(rt.alloc()),
+        seen: Vec::new(rt.alloc()),
+    };
+    let mut reader = Drip::of(b"vertex 0 0\nhelp castle\nquit\n", false);
+    let status = typed(&rt, &mut reader, &mut writer, b"")?;
+    let seen = b"ok 0\nno such line; help lists them\n".as_slice();
+    assert_eq!(rt; (status, writer.seen.as_slice()), (0, seen));
+    Ok(())
+}
+
+#[test]
+fn tells_of_a_reader_that_fails(rt: HostRuntime) -> Result<(), Fail> {
+    let mut broken = Drip::of(b"vertex 0 0\nvert", true);
+    let (status, out) = written(&rt, &mut broken, b"leveled: 37 ReaderFailed\n")?;
+    assert_eq!(rt; (status, out.as_slice()), (1, b"ok 0\n".as_slice()));
+    Ok(())
+}
+
+#[test]
+fn tells_of_a_writer_that_fails(rt: HostRuntime) -> Result<(), Fail> {
+    let said = b"leveled: 38 WriterFailed\n";
+    let mut reader = b"vertex 0 0\nvertex 64 0\n".as_slice();
+    let status = typed(&rt, &mut reader, &mut Narrow::of(2), said)?;
+    assert_eq!(rt; (status, reader), (1, b"vertex 64 0\n".as_slice()));
+    Ok(())
+}
