@@ -5,7 +5,7 @@ use Rattle.std.specs.Io.KnownBytes.{Appends, Keeps}
 use Rattle.lump_records.specs.Names.{name_text}
 use Rattle.map_tables.specs.Projects.{MapsView, ProjectMaps, current_map, project_of}
 use Rattle.map_tables.specs.Tables.{Tables}
-use Rattle.map_picture.specs.Picture.{picture_of}
+use Rattle.map_picture.specs.Picture.{WantsMemory, picture_of}
 use Rattle.map_svg.specs.declared.overlay.Overlay.{Overlay}
 use Rattle.cli_print.specs.LaidOver.{IsLaidOver, NotLaidOver}
 use Rattle.cli_print.specs.declared.laid_over.Layers.{Layers}
@@ -34,21 +34,21 @@ IsLeft false writer-old writer-new = Unit {0}
 IsLeft true writer-old writer-new = Keeps writer-old writer-new
 
 -- the picture of the map, with what is laid over it, was drawn; or one that goes into a file or
--- shows heights found no memory, and nothing was written; or the writer or the file failed
+-- shows heights or numbers found no memory, and nothing was written; or the writer or the file failed
 abbrev pub IsDrawn : Layers → Tables → Overlay → Bool → Result ℕ Refusal → Option (List ℕ)
     → Option (List ℕ) → Type 0
 IsDrawn layers m o into (Ok status) writer-old writer-new =
     (status ≡ 0)
     × IsShown into (picture_of layers.options m o) writer-old writer-new
 IsDrawn layers m o into (Err (of.Lines OutOfMemory)) writer-old writer-new =
-    ((into ≡ true) ⊎ (layers.options.heights ≡ true)) × Keeps writer-old writer-new
+    ((into ≡ true) ⊎ WantsMemory layers.options) × Keeps writer-old writer-new
 IsDrawn layers m o into (Err (of.Lines WriterFailed)) writer-old writer-new =
     IsLeft into writer-old writer-new
 IsDrawn layers m o into _ writer-old writer-new = ⊥
 
 -- the map of the name was drawn, with what is wanted over it; or, with nothing written, there is no
--- such map, or its tree is refused, or marks, heights or a picture that goes into a file found no
--- memory; or the writer or the file failed
+-- such map, or its tree is refused, or marks, heights, numbers or a picture that goes into a file
+-- found no memory; or the writer or the file failed
 abbrev pub IsPicturedOf : Layers → Option (List ℕ) → Bool → MapsView → Result ℕ Refusal
     → Option (List ℕ) → Option (List ℕ) → Type 0
 IsPicturedOf layers name into maps (Ok status) writer-old writer-new =
@@ -60,7 +60,7 @@ IsPicturedOf layers name into maps (Err (of.Build e)) writer-old writer-new =
     (m : Tables) × (drawn_map name (project_of maps) ≡ Some m)
     × NotLaidOver layers.nodes layers.lint m (of.Build e) × Keeps writer-old writer-new
 IsPicturedOf layers name into maps (Err (of.Lines OutOfMemory)) writer-old writer-new =
-    ((into ≡ true) ⊎ (layers.options.heights ≡ true) ⊎ (layers.lint ≡ true))
+    ((into ≡ true) ⊎ WantsMemory layers.options ⊎ (layers.lint ≡ true))
     × Keeps writer-old writer-new
 IsPicturedOf layers name into maps (Err (of.Lines WriterFailed)) writer-old writer-new =
     IsLeft into writer-old writer-new

@@ -1,8 +1,8 @@
 //! What `picture` draws: a map as SVG.
-ghost use Rattle.std.specs.Prelude.{◌≡◌, ◌≤◌, ◌⊎◌, None, Some, IfErr, IfOk, MatchOption, find, is_some, option_map, true};
+ghost use Rattle.std.specs.Prelude.{◌≡◌, ◌≤◌, ◌⊎◌, None, Some, IfErr, IfOk, MatchOption, find, is_some, option_map};
 ghost use Rattle.std.specs.Io.KnownBytes.{Appends, Keeps};
 ghost use Rattle.map_tables.specs.Projects.{project_of};
-ghost use Rattle.map_picture.specs.Picture.{picture_of};
+ghost use Rattle.map_picture.specs.Picture.{WantsMemory, picture_of};
 ghost use Rattle.cli_files.specs.NewFile.{IsMadeOf, file_of};
 ghost use Rattle.cli_print.specs.Picturing.{IsDrawn, IsPicturedOf, drawn_map, is_called};
 ghost use Rattle.run_edit.specs.declared.error.EditorError.TheVariants.{OutOfMemory, WriterFailed};
@@ -151,7 +151,7 @@ fn show<W: Write>(
         × Appends (W.contents writer.old) (W.contents writer.new)
         (picture_of options map.now.tables overlay.now)) }
     ensures failed { IfErr result (λ r. (r ≡ Refusal.Lines WriterFailed)
-        ⊎ (r ≡ Refusal.Lines OutOfMemory) × (options.heights ≡ true)
+        ⊎ (r ≡ Refusal.Lines OutOfMemory) × WantsMemory options
         × Keeps (W.contents writer.old) (W.contents writer.new)) }
 {
     match write_picture(alloc, map, options, overlay, writer) {

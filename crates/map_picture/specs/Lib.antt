@@ -1,11 +1,15 @@
+pub mod Borders
 pub mod Fills
 pub mod Floors
 pub mod Groups
 pub mod Items
+pub mod Labels
 pub mod Legend
 pub mod Lines
+pub mod Numbering
 pub mod Numbers
 pub mod Picture
+pub mod Placing
 pub mod Sheet
 pub mod Style
 pub mod Things

@@ -1,16 +1,15 @@
--- The numbers of vertices, lines and sectors.
-use Rattle.std.specs.Prelude.{ℕ, ◌*◌, Bool, ◌&&◌, ◌||◌, ◌==◌, nat_lt, if◌then◌else◌, List, [], ◌++◌, fold, Option, Some, None, pos, neg_ℤ, codes, decimal, ◌∷◌}
+-- The text of a number, and the line of a sector beside which its number is.
+use Rattle.std.specs.Prelude.{ℕ, Bool, ◌&&◌, ◌||◌, ◌==◌, nat_lt, if◌then◌else◌, List, [], ◌++◌, fold, Option, Some, None, codes, decimal, ◌∷◌}
 use Rattle.std.specs.Fmt.{signed_decimal}
 use Rattle.std.specs.Option.{option_map_or}
 use Rattle.lump_records.specs.declared.records.Line.{Line}
-use Rattle.lump_records.specs.declared.records.Vertex.{Vertex}
 use Rattle.lump_records.specs.Drawing.{squared_distance}
 use Rattle.lump_records.specs.Sides.{has_left}
 use Rattle.lump_text.specs.Texts.{joined}
 use Rattle.map_tables.specs.Tables.{Tables}
 use Rattle.map_tables.specs.WellFormed.{nth_vertex}
 use Rattle.map_picture.specs.Items.{sector_of}
-use Rattle.map_svg.specs.Places.{middle_of, shift_right, spot_of}
+use Rattle.map_svg.specs.Places.{middle_of}
 use Rattle.map_svg.specs.declared.places.Spot.{Spot}
 use Rattle.map_svg.specs.declared.places.Shift.{Shift}
 
@@ -33,24 +32,9 @@ beside_text s n =
 unfoldable pub number_text : List ℕ → Spot → Shift → ℕ → List ℕ
 number_text class p s n = anchor_text class p ++ beside_text s n
 
--- the vector to the upper right
-abbrev pub up_right : ℕ → Shift
-up_right step = record { dx = pos step; dy = neg_ℤ (pos step) }
-
--- a vertex's number, on its upper right
-unfoldable pub vertex_number : ℕ → ℕ → Vertex → List ℕ
-vertex_number step n v =
-    number_text (codes "of-vertex") (spot_of v) (up_right step) n
-
 -- the middle of a line
 abbrev pub line_middle : Tables → Line → Spot
 line_middle m l = middle_of (nth_vertex m.vertices l.v1) (nth_vertex m.vertices l.v2)
-
--- a line's number, as far on its left as the tick goes to the right
-unfoldable pub line_number : Tables → ℕ → ℕ → Line → List ℕ
-line_number m step n l =
-    number_text (codes "of-line") (line_middle m l)
-    (shift_right (nth_vertex m.vertices l.v2) (nth_vertex m.vertices l.v1) step) n
 
 -- the line has the sector on a side
 abbrev pub bounds : Tables → ℕ → Line → Bool
@@ -69,17 +53,3 @@ longer m s longest l =
 -- the longest of a sector's lines; of several, the first one
 abbrev pub longest_line : Tables → ℕ → Option Line
 longest_line m s = fold (longer m s) None m.lines
-
--- the vector from a line's middle into a sector that it has on a side
-abbrev pub sector_shift : Tables → ℕ → ℕ → Line → Shift
-sector_shift m step s l =
-    let from = nth_vertex m.vertices l.v1 in
-    let to = nth_vertex m.vertices l.v2 in
-    if sector_of m l.right == s then shift_right from to (3 * step)
-    else shift_right to from (3 * step)
-
--- a sector's number, inside it beside the longest of its lines; empty if it has no line
-unfoldable pub sector_number : Tables → ℕ → ℕ → List ℕ
-sector_number m step n =
-    option_map_or (λ l. number_text (codes "of-sector") (line_middle m l)
-    (sector_shift m step n l) n) (longest_line m n) []

@@ -1,5 +1,5 @@
 -- The whole picture.
-use Rattle.std.specs.Prelude.{◌≡◌, ℕ, Bool, true, false, Option, List, [], ◌∷◌, ◌++◌, flat_map, codes, decimal}
+use Rattle.std.specs.Prelude.{◌≡◌, ◌⊎◌, ℕ, Bool, true, Option, List, [], ◌∷◌, ◌++◌, flat_map, codes, decimal}
 use Rattle.std.specs.Fmt.{signed_decimal}
 use Rattle.std.specs.Io.KnownBytes.{Keeps}
 use Rattle.std.specs.List.{range_with_len}
@@ -14,13 +14,13 @@ use Rattle.map_svg.specs.Texts.{of_item}
 use Rattle.map_svg.specs.declared.overlay.Overlay.{Overlay}
 use Rattle.map_svg.specs.declared.places.Spot.{Spot}
 use Rattle.map_picture.specs.declared.parts.Part.{Part}
-use Rattle.map_picture.specs.declared.parts.Part.TheVariants.{Lines, Things, Vertices, VertexNumbers, LineNumbers, SectorNumbers}
+use Rattle.map_picture.specs.declared.parts.Part.TheVariants.{Lines, Things, Vertices}
 use Rattle.map_picture.specs.declared.options.PictureError.{PictureError}
 use Rattle.map_picture.specs.declared.options.PictureError.TheVariants.{OutOfMemory, WriterFailed}
 use Rattle.map_picture.specs.declared.options.PictureOptions.{PictureOptions}
 use Rattle.map_picture.specs.declared.view.View.{View}
 use Rattle.map_picture.specs.Lines.{line_text}
-use Rattle.map_picture.specs.Numbers.{line_number, sector_number, vertex_number}
+use Rattle.map_picture.specs.Numbering.{numbers_text}
 use Rattle.map_picture.specs.Sheet.{closing_text, sheet_of, under_text}
 use Rattle.map_picture.specs.Style.{style_text}
 use Rattle.map_picture.specs.Things.{thing_text}
@@ -57,28 +57,21 @@ paper_text v = style_text ++ page_text v
 unfoldable pub head_text : View → Name8 → List ℕ
 head_text v name = opening_text v ++ map_title name ++ paper_text v
 
--- the parts of a picture in their order, with numbers or without
-abbrev pub picture_parts : Bool → List Part
-picture_parts false = Lines ∷ Things ∷ Vertices ∷ []
-picture_parts true = Lines ∷ Things ∷ Vertices ∷ VertexNumbers ∷ LineNumbers ∷ SectorNumbers ∷ []
+-- the parts of a picture in their order
+abbrev pub picture_parts : List Part
+picture_parts = Lines ∷ Things ∷ Vertices ∷ []
 
 -- the table whose items a part shows
 abbrev pub part_kind : Part → Kind
 part_kind Lines = kind.Line
 part_kind Things = kind.Thing
 part_kind Vertices = kind.Vertex
-part_kind VertexNumbers = kind.Vertex
-part_kind LineNumbers = kind.Line
-part_kind SectorNumbers = kind.Sector
 
 -- the element of a part for the item with the number, with ticks of this length
 abbrev pub element : Tables → ℕ → Part → ℕ → List ℕ
 element m step Lines n = of_item (line_text m step n) m.lines n
 element m step Things n = of_item (thing_text n) m.things n
 element m step Vertices n = of_item (vertex_text n) m.vertices n
-element m step VertexNumbers n = of_item (vertex_number step n) m.vertices n
-element m step LineNumbers n = of_item (line_number m step n) m.lines n
-element m step SectorNumbers n = sector_number m step n
 
 -- a part: the element of each item, in the order of the items
 abbrev pub part_text : Tables → ℕ → Part → List ℕ
@@ -89,10 +82,11 @@ part_text m step part =
 abbrev pub page_corner : View → Spot
 page_corner v = record { x = v.left; y = v.top }
 
--- the map: its parts and the overlay
+-- the map: its parts, the numbers if they are asked for, and the overlay
 unfoldable pub map_text : Bool → Tables → View → Overlay → List ℕ
 map_text numbers m v o =
-    flat_map (part_text m v.step) (picture_parts numbers) ++ overlay_text v.step (page_corner v) o
+    flat_map (part_text m v.step) picture_parts ++ numbers_text numbers m v
+    ++ overlay_text v.step (page_corner v) o
 
 -- the picture of a map with its overlay, on a sheet
 abbrev pub picture_of : PictureOptions → Tables → Overlay → List ℕ
@@ -101,9 +95,13 @@ picture_of options m o =
     head_text (sheet_of options view) m.name ++ under_text options m view
     ++ map_text options.numbers m view o ++ closing_text options
 
--- why there is no picture: no memory for the findings of the map, with nothing written; or the writer failed
+-- the picture needs memory: for the numbers or for the filled sectors
+abbrev pub WantsMemory : PictureOptions → Type 0
+WantsMemory options = (options.heights ≡ true) ⊎ (options.numbers ≡ true)
+
+-- why there is no picture: no memory for what takes some, with nothing written; or the writer failed
 abbrev pub IsNotPictured : PictureOptions → Option (List ℕ) → Option (List ℕ) → PictureError
     → Type 0
 IsNotPictured options writer-old writer-new OutOfMemory =
-    (options.heights ≡ true) × Keeps writer-old writer-new
+    WantsMemory options × Keeps writer-old writer-new
 IsNotPictured options writer-old writer-new WriterFailed = Unit {0}

@@ -28,14 +28,13 @@ style_rules =
     ∷ codes ".monster path{fill:#dc2626;stroke:#7f1d1d}"
     ∷ codes ".item path{fill:#eab308;stroke:#854d0e}"
     ∷ codes ".other path{fill:#9ca3af;stroke:#374151}"
-    ∷ (codes "text{font-family:sans-serif;font-size:1.4em;"
-    ++ codes "text-anchor:middle;dominant-baseline:central}")
+    ∷ codes "text{font-family:sans-serif;text-anchor:middle;dominant-baseline:central}"
     ∷ codes "text{stroke:#fff;stroke-width:.2em;paint-order:stroke}"
     ∷ codes ".of-vertex{fill:#1d4ed8}"
     ∷ codes ".of-line{fill:#222}"
-    ∷ codes ".of-sector{fill:#15803d;fill-opacity:.6;stroke:none;font-size:2em;font-weight:bold}"
-    ∷ codes "svg:has(#vertex299) text{font-size:12px}"
-    ∷ codes "svg:has(#vertex299) .of-sector{font-size:20px}"
+    ∷ codes ".of-thing{fill:#7e22ce}"
+    ∷ codes ".of-sector{fill:#15803d;font-size:1.5em}"
+    ∷ codes ".left-out{fill:#222;text-anchor:start}"
     ∷ codes "svg:has(#vertex299) .vertex{vector-effect:none;stroke-width:8px}"
     ∷ codes "svg:has(#vertex299) .tick{vector-effect:none;stroke-width:2px}" ∷ []
 
@@ -43,8 +42,6 @@ style_rules =
 abbrev pub phone_rules : List (List ℕ)
 phone_rules =
     codes "@media (max-width:600px){"
-    ∷ codes "text{font-size:2.4em}"
-    ∷ codes ".of-sector{font-size:3.2em}"
     ∷ codes ".vertex{vector-effect:none;stroke-width:8px}"
     ∷ codes ".one path,[id^=sub] path{stroke-width:1.5px}"
     ∷ codes ".two path{stroke-width:1px}"
@@ -77,7 +74,9 @@ dark_rules =
     ∷ codes "text{stroke:#111}"
     ∷ codes ".of-vertex{fill:#93c5fd}"
     ∷ codes ".of-line{fill:#eee}"
+    ∷ codes ".of-thing{fill:#d8b4fe}"
     ∷ codes ".of-sector{fill:#4ade80}"
+    ∷ codes ".left-out{fill:#eee}"
     ∷ codes "}" ∷ []
 
 -- rules, each in a line of its own

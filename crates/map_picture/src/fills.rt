@@ -1,16 +1,21 @@
 //! The sectors of a map as areas that are filled by the heights of their floors.
-ghost use Rattle.std.specs.Prelude.{◌≡◌, OnOk};
+ghost use Rattle.std.specs.Prelude.{◌≡◌, ◌++◌, flat_map, length, IfErr, IfOk, OnOk, true};
 ghost use Rattle.std.specs.Io.KnownBytes.{Appends};
 ghost use Rattle.map_checks.specs.Findings.{findings};
+ghost use Rattle.map_picture.specs.Borders.{AreBorders};
 ghost use Rattle.map_picture.specs.Fills.{all_fills, area_text, border_text, edge_text, sector_fields, fill_opening, fill_text, flats_text, heights_text, is_found_open, nth_border, nth_fill, tells_open};
+ghost use Rattle.map_picture.specs.Sheet.{fills_text};
 
-use crate::floors::{Heights, floor_colour};
+use crate::borders::{Borders, sector_borders};
+use crate::floors::{Heights, floor_colour, floor_heights};
 use crate::items::sector_of;
+use crate::options::PictureError;
 use lump_records::{Line, Sector};
 use lump_text::WriterFailed;
-use map_checks::Finding;
+use map_checks::{Finding, check};
 use map_svg::{Spot, spot_of, write_bytes};
 use map_tables::{Kind, Map};
+use std::alloc::Global;
 use std::io::Write;
 
 // Whether the finding says that the sector isn't closed.
@@ -78,18 +83,38 @@ fn write_nth_border<W: Write>(
     }
 }
 
-// Writes the edges of the sector.
-fn write_area<W: Write>(map: &Map, sector: u32, writer: &mut W) -> Result<(), WriterFailed>
+// Writes the edges of the sector along these lines.
+fn write_edges<W: Write>(
+    map: &Map,
+    sector: u32,
+    lines: &[u32],
+    writer: &mut W,
+) -> Result<(), WriterFailed>
     ensures { OnOk result (Appends (W.contents writer.old) (W.contents writer.new)
-        (area_text map.now.tables sector)) }
+        (flat_map (nth_border map.now.tables sector) lines.now)) }
 {
-    for n in 0..map.count(Kind::Line) {
-        match write_nth_border(map, sector, n, writer) {
+    for line in lines {
+        match write_nth_border(map, sector, *line, writer) {
             Ok(()) => {}
             Err(error) => return Err(error),
         }
     }
     Ok(())
+}
+
+// Writes the edges of the sector, which all are along these lines.
+fn write_area<W: Write>(
+    map: &Map,
+    sector: u32,
+    lines: &[u32],
+    writer: &mut W,
+) -> Result<(), WriterFailed>
+    requires { flat_map (nth_border map.now.tables sector) lines.now
+        ≡ area_text map.now.tables sector }
+    ensures { OnOk result (Appends (W.contents writer.old) (W.contents writer.new)
+        (area_text map.now.tables sector)) }
+{
+    write_edges(map, sector, lines, writer)
 }
 
 // Writes the beginning of the element of a sector: its id, the class of its colour, and the beginning of its path.
@@ -142,34 +167,40 @@ fn write_fields<W: Write>(sector: &Sector, writer: &mut W) -> Result<(), WriterF
     Ok(())
 }
 
-// Writes the element of a sector.
+// Writes the element of a sector, whose edges all are along these lines.
 #[tactic(auto, unfolding(crate::specs::Fills::fill_text))]
 fn write_fill<W: Write>(
     map: &Map,
     heights: Heights,
     n: u32,
     sector: &Sector,
+    lines: &[u32],
     writer: &mut W,
 ) -> Result<(), WriterFailed>
+    requires { flat_map (nth_border map.now.tables n) lines.now ≡ area_text map.now.tables n }
     ensures { OnOk result (Appends (W.contents writer.old) (W.contents writer.new)
         (fill_text map.now.tables heights n sector.now)) }
 {
     write_opening(n, floor_colour(heights, sector.floor), writer)?;
-    write_area(map, n, writer)?;
+    write_area(map, n, lines, writer)?;
     write_heights(n, sector, writer)?;
     write_flats(sector, writer)?;
     write_fields(sector, writer)
 }
 
-// Writes the element of the sector with the number, if there is one and none of the findings says that it isn't closed.
+// Writes the element of the sector with the number, whose edges all are along these lines, if none of the findings says
+// that it isn't closed.
 fn write_nth<W: Write>(
     map: &Map,
     found: &[Finding],
     heights: Heights,
     n: u32,
+    lines: &[u32],
     writer: &mut W,
 ) -> Result<(), WriterFailed>
-    requires { found.now ≡ findings map.now.tables }
+    requires found { found.now ≡ findings map.now.tables }
+    requires lines { flat_map (nth_border map.now.tables n) lines.now
+        ≡ area_text map.now.tables n }
     ensures { OnOk result (Appends (W.contents writer.old) (W.contents writer.new)
         (nth_fill map.now.tables heights n)) }
 {
@@ -177,27 +208,69 @@ fn write_nth<W: Write>(
         return Ok(());
     }
     match map.sector(n) {
-        Some(sector) => write_fill(map, heights, n, &sector, writer),
+        Some(sector) => write_fill(map, heights, n, &sector, lines, writer),
         None => Ok(()),
     }
 }
 
-/// Writes the elements of the sectors that are closed, with the findings of the map and the heights of its floors.
-pub(crate) fn write_fills<W: Write>(
+// Writes the elements of the sectors that are closed, with the findings of the map, the lines of its sectors and the
+// heights of its floors.
+fn write_fills<W: Write>(
     map: &Map,
     found: &[Finding],
+    borders: &[Borders],
     heights: Heights,
     writer: &mut W,
 ) -> Result<(), WriterFailed>
-    requires { found.now ≡ findings map.now.tables }
+    requires found { found.now ≡ findings map.now.tables }
+    requires borders { AreBorders map.now.tables (length map.now.tables.lines) borders.now }
     ensures { OnOk result (Appends (W.contents writer.old) (W.contents writer.new)
         (all_fills map.now.tables heights)) }
 {
     for n in 0..map.count(Kind::Sector) {
-        match write_nth(map, found, heights, n, writer) {
+        let lines = borders[n as usize].lines();
+        match write_nth(map, found, heights, n, lines, writer) {
             Ok(()) => {}
             Err(error) => return Err(error),
         }
     }
     Ok(())
+}
+
+// Appends the elements of the sectors that are closed to a text.
+fn add_fills(
+    alloc: Global,
+    map: &Map,
+    heights: Heights,
+    text: &mut Vec<u8>,
+) -> Result<(), PictureError>
+    ensures { OnOk result (text.new.items
+        ≡ text.old.items ++ all_fills map.now.tables heights) }
+{
+    let Ok(found) = check(alloc, map) else {
+        return Err(PictureError::OutOfMemory);
+    };
+    let borders = sector_borders(alloc, map)?;
+    match write_fills(map, &found, &borders, heights, text) {
+        Ok(()) => Ok(()),
+        Err(_) => Err(PictureError::OutOfMemory),
+    }
+}
+
+/// The text of the sectors that are closed, if they are asked for.
+pub(crate) fn fills_text(alloc: Global, map: &Map, wanted: bool) -> Result<Vec<u8>, PictureError>
+    ensures text { IfOk result (λ text. text.items ≡ fills_text wanted map.now.tables) }
+    ensures memory { IfErr result (λ _. wanted ≡ true) }
+{
+    let mut text = Vec::new(alloc);
+    if !wanted {
+        return Ok(text);
+    }
+    match floor_heights(map) {
+        Some(heights) => match add_fills(alloc, map, heights, &mut text) {
+            Ok(()) => Ok(text),
+            Err(error) => Err(error),
+        },
+        None => Ok(text),
+    }
 }

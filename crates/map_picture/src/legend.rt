@@ -1,12 +1,12 @@
 //! The margin on the right of the page: a scale, and which colour stands for which heights.
-ghost use Rattle.std.specs.Prelude.{◌≡◌, ◌≤◌, ◌<◌, ◌+ℤ◌, pos, OnOk};
+ghost use Rattle.std.specs.Prelude.{◌≤◌, ◌<◌, OnOk};
 ghost use Rattle.std.specs.Io.KnownBytes.{Appends};
 ghost use Rattle.map_picture.specs.Floors.{floor_heights, step_count};
 ghost use Rattle.map_picture.specs.Legend.{colours_text, first_text, last_text, unless_only, legend_opening, legend_text, range_text, row_opening, row_text, rows_text, scale_of_heights, scale_text};
 
 use crate::floors::{Heights, colour_of, first_height, floor_heights, last_height, step_count};
 use crate::options::PictureOptions;
-use crate::view::View;
+use crate::view::{View, right_edge};
 use lump_text::WriterFailed;
 use map_svg::write_bytes;
 use map_tables::Map;
@@ -16,19 +16,12 @@ use std::io::Write;
 const SCALE: &[u8] = b"<text x=\"1em\" y=\"1.6em\">256 units</text>
 <rect class=\"bar\" x=\"1em\" y=\"2.6em\" width=\"256\" height=\".3em\"/>\n";
 
-// The right edge of the page, beside which the margin is.
-fn right_of(view: &View) -> i64
-    ensures { result ≡ view.now.left +ℤ pos view.now.width }
-{
-    i64::from(view.left) + i64::from(view.width)
-}
-
 // Writes the beginning of what is in the margin.
 fn write_legend_opening<W: Write>(view: &View, writer: &mut W) -> Result<(), WriterFailed>
     ensures { OnOk result
         (Appends (W.contents writer.old) (W.contents writer.new) (legend_opening view.now)) }
 {
-    let (right, top) = (right_of(view), view.top);
+    let (right, top) = (right_edge(view), view.top);
     write!(
         writer,
         "<g id=\"legend\" font-size=\"1.6em\" transform=\"translate({right} {top})\">\n"

@@ -1,11 +1,13 @@
 //! The longest line of each of several sectors, found in one pass over the lines.
-ghost use Rattle.std.specs.Prelude.{◌≡◌, ◌<◌, ℕ, length, slice_index_or};
+ghost use Rattle.std.specs.Prelude.{◌≡◌, ◌<◌, ℕ, IfOk, length, slice_index_or};
 ghost use Rattle.map_picture.specs.Numbers.{bounds, longer, longest_line, squared_len};
 ghost use Rattle.map_picture.specs.Longest.{AreLongest, LooksAt, LooksFor};
 
 use crate::items::sector_of;
+use crate::options::PictureError;
 use lump_records::{Line, squared_distance};
 use map_tables::{Kind, Map};
+use std::alloc::Global;
 
 // Whether the line has the sector on a side.
 fn bounds(map: &Map, sector: u32, line: &Line) -> bool
@@ -75,8 +77,8 @@ fn clear(longest: &mut [Option<Line>])
     }
 }
 
-/// Finds the longest line of each sector from `first` on; of several, the first one.
-pub(crate) fn find_longest(longest: &mut [Option<Line>], map: &Map, first: u32)
+// Finds the longest line of each sector from `first` on; of several, the first one.
+fn find_longest(longest: &mut [Option<Line>], map: &Map, first: u32)
     ensures { AreLongest map.now.tables first map.now.tables.lines longest.new }
 {
     clear(longest);
@@ -95,4 +97,15 @@ pub fn longest_line(map: &Map, sector: u32) -> Option<Line>
     let mut longest = [None; 1];
     find_longest(&mut longest, map, sector);
     longest[0]
+}
+
+/// The longest line of each sector, if it has one; of several, the first one.
+pub(crate) fn all_longest(alloc: Global, map: &Map) -> Result<Vec<Option<Line>>, PictureError>
+    ensures count { IfOk result (λ ls. length ls.items ≡ length map.now.tables.sectors) }
+    ensures lines { IfOk result (λ ls.
+        AreLongest map.now.tables 0 map.now.tables.lines ls.items) }
+{
+    let mut longest: Vec<Option<Line>> = vec![in alloc; None; map.count(Kind::Sector) as usize]?;
+    find_longest(&mut longest, map, 0);
+    Ok(longest)
 }

@@ -10,29 +10,15 @@ pub enum Part {
     Lines,
     Things,
     Vertices,
-    VertexNumbers,
-    LineNumbers,
-    SectorNumbers,
 }
 
-// The parts that are always drawn.
-const DRAWN: [Part; 3] = [Part::Lines, Part::Things, Part::Vertices];
+const PARTS: [Part; 3] = [Part::Lines, Part::Things, Part::Vertices];
 
-// The same parts, and the numbers.
-const NUMBERED: [Part; 6] = [
-    Part::Lines,
-    Part::Things,
-    Part::Vertices,
-    Part::VertexNumbers,
-    Part::LineNumbers,
-    Part::SectorNumbers,
-];
-
-/// The parts of a picture, with numbers or without.
-pub(crate) fn parts_of(numbers: bool) -> &'static [Part]
-    ensures { result.now ≡ picture_parts numbers }
+/// The parts of a picture.
+pub(crate) fn picture_parts() -> &'static [Part]
+    ensures { result.now ≡ picture_parts }
 {
-    if numbers { &NUMBERED } else { &DRAWN }
+    &PARTS
 }
 
 /// The table whose items a part shows.
@@ -40,9 +26,8 @@ pub(crate) fn kind_of(part: Part) -> Kind
     ensures { result ≡ part_kind part }
 {
     match part {
-        Part::Lines | Part::LineNumbers => Kind::Line,
+        Part::Lines => Kind::Line,
         Part::Things => Kind::Thing,
-        Part::Vertices | Part::VertexNumbers => Kind::Vertex,
-        Part::SectorNumbers => Kind::Sector,
+        Part::Vertices => Kind::Vertex,
     }
 }

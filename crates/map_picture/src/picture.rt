@@ -1,14 +1,17 @@
 //! The call that writes a picture.
-ghost use Rattle.std.specs.Prelude.{◌≡◌, ◌≢◌, ◌≤◌, IfErr, IfOk, OnOk, flat_map, true};
+ghost use Rattle.std.specs.Prelude.{◌≡◌, ◌≤◌, IfErr, OnOk, flat_map};
 ghost use Rattle.std.specs.Io.KnownBytes.{Appends};
-ghost use Rattle.map_checks.specs.Findings.{findings};
+ghost use Rattle.map_picture.specs.Numbering.{numbers_text};
 ghost use Rattle.map_picture.specs.Picture.{IsNotPictured, element, head_text, opening_text, map_text, map_title, page_corner, page_text, paper_text, part_text, picture_of};
+ghost use Rattle.map_picture.specs.Sheet.{fills_text};
 ghost use Rattle.map_picture.specs.Style.{style_text};
+ghost use Rattle.map_picture.specs.View.{view_of};
 
+use crate::fills::fills_text;
 use crate::lines::write_line;
-use crate::numbers::{write_line_number, write_sector_numbers, write_vertex_number};
+use crate::numbers::numbers_text;
 use crate::options::{PictureError, PictureOptions};
-use crate::parts::{Part, kind_of, parts_of};
+use crate::parts::{Part, kind_of, picture_parts};
 use crate::sheet::{sheet_of, write_closing, write_under};
 use crate::style::STYLE;
 use crate::things::write_thing;
@@ -16,7 +19,6 @@ use crate::vertices::write_vertex;
 use crate::view::{View, view_of};
 use lump_records::Name8;
 use lump_text::WriterFailed;
-use map_checks::{CheckError, Finding, check};
 use map_svg::{Overlay, Spot, write_bytes, write_overlay};
 use map_tables::Map;
 use std::alloc::Global;
@@ -102,7 +104,6 @@ fn write_element<W: Write>(
     n: u32,
     writer: &mut W,
 ) -> Result<(), WriterFailed>
-    requires { part ≢ Part.SectorNumbers }
     ensures { OnOk result (Appends (W.contents writer.old) (W.contents writer.new)
         (element map.now.tables step part n)) }
 {
@@ -119,15 +120,6 @@ fn write_element<W: Write>(
             Some(vertex) => write_vertex(n, vertex, writer),
             None => Ok(()),
         },
-        Part::VertexNumbers => match map.vertex(n) {
-            Some(vertex) => write_vertex_number(step, n, vertex, writer),
-            None => Ok(()),
-        },
-        Part::LineNumbers => match map.line(n) {
-            Some(line) => write_line_number(map, step, n, &line, writer),
-            None => Ok(()),
-        },
-        Part::SectorNumbers => unreachable!(),
     }
 }
 
@@ -138,7 +130,6 @@ fn write_items<W: Write>(
     part: Part,
     writer: &mut W,
 ) -> Result<(), WriterFailed>
-    requires { part ≢ Part.SectorNumbers }
     ensures { OnOk result (Appends (W.contents writer.old) (W.contents writer.new)
         (part_text map.now.tables step part)) }
 {
@@ -151,23 +142,6 @@ fn write_items<W: Write>(
     Ok(())
 }
 
-// Writes the elements of a part.
-fn write_part<W: Write>(
-    map: &Map,
-    step: u32,
-    part: Part,
-    writer: &mut W,
-) -> Result<(), WriterFailed>
-    requires { step ≤ 1000 }
-    ensures { OnOk result (Appends (W.contents writer.old) (W.contents writer.new)
-        (part_text map.now.tables step part)) }
-{
-    match part {
-        Part::SectorNumbers => write_sector_numbers(map, step, writer),
-        _ => write_items(map, step, part, writer),
-    }
-}
-
 // Writes the parts.
 fn write_parts<W: Write>(
     map: &Map,
@@ -175,12 +149,11 @@ fn write_parts<W: Write>(
     parts: &[Part],
     writer: &mut W,
 ) -> Result<(), WriterFailed>
-    requires { step ≤ 1000 }
     ensures { OnOk result (Appends (W.contents writer.old) (W.contents writer.new)
         (flat_map (part_text map.now.tables step) parts.now)) }
 {
     for part in parts {
-        match write_part(map, step, *part, writer) {
+        match write_items(map, step, *part, writer) {
             Ok(()) => {}
             Err(error) => return Err(error),
         }
@@ -198,64 +171,58 @@ fn page_corner(view: &View) -> Spot
     }
 }
 
-// Writes the map: its parts and the overlay.
+// Writes the map: its parts, the text of the numbers, and the overlay.
 #[tactic(auto, unfolding(crate::specs::Picture::map_text))]
 fn write_map<W: Write>(
     map: &Map,
-    numbers: bool,
+    options: PictureOptions,
+    numbers: &[u8],
     view: &View,
     overlay: &Overlay,
     writer: &mut W,
 ) -> Result<(), WriterFailed>
-    requires { view.now.step ≤ 1000 }
+    requires { numbers.now ≡ numbers_text options.numbers map.now.tables view.now }
     ensures { OnOk result (Appends (W.contents writer.old) (W.contents writer.new)
-        (map_text numbers map.now.tables view.now overlay.now)) }
+        (map_text options.numbers map.now.tables view.now overlay.now)) }
 {
-    write_parts(map, view.step, parts_of(numbers), writer)?;
+    write_parts(map, view.step, picture_parts(), writer)?;
+    write_bytes(numbers, writer)?;
     write_overlay(overlay, view.step, page_corner(view), writer)
 }
 
-// Writes the picture, with the findings of the map.
-fn write_found<W: Write>(
+// Writes the picture, with the texts of the filled sectors and of the numbers.
+fn write_with<W: Write>(
     map: &Map,
-    found: &[Finding],
+    view: View,
+    fills: &[u8],
+    numbers: &[u8],
     options: PictureOptions,
     overlay: &Overlay,
     writer: &mut W,
 ) -> Result<(), WriterFailed>
-    requires { options.heights ≡ true → found.now ≡ findings map.now.tables }
+    requires view { view ≡ view_of options.crop map.now.tables }
+    requires width { view.width ≤ 65663 }
+    requires step { view.step ≤ 1000 }
+    requires fills { fills.now ≡ fills_text options.heights map.now.tables }
+    requires numbers { numbers.now ≡ numbers_text options.numbers map.now.tables view }
     ensures { OnOk result (Appends (W.contents writer.old) (W.contents writer.new)
         (picture_of options map.now.tables overlay.now)) }
 {
-    let view = view_of(map, options.crop);
     write_head(map.name(), &sheet_of(options, view), writer)?;
-    write_under(map, options, found, &view, writer)?;
-    write_map(map, options.numbers, &view, overlay, writer)?;
+    write_under(map, options, fills, &view, writer)?;
+    write_map(map, options, numbers, &view, overlay, writer)?;
     write_closing(options, writer)
 }
 
-// The findings of the map, if its closed sectors are filled.
-fn found_of(alloc: Global, map: &Map, heights: bool) -> Result<Vec<Finding>, CheckError>
-    ensures found { IfOk result (λ found. heights ≡ true
-        → found.items ≡ findings map.now.tables) }
-    ensures memory { IfErr result (λ _. heights ≡ true) }
-{
-    if heights {
-        check(alloc, map)
-    } else {
-        Ok(Vec::new(alloc))
-    }
-}
-
 /// Writes the map as an SVG 1.1 picture: a title and a style, then an element for each line, each thing and each
-/// vertex, the numbers if the options ask for them, and the overlay. Under the lines are the grid and the closed
-/// sectors, and beside them a scale and a legend, each if the options ask for it. Only for `heights` it allocates
-/// memory. If the writer is a file, put a buffer round it.
+/// vertex, as many numbers as fit if the options ask for them, and the overlay. Under the lines are the grid and the
+/// closed sectors, and beside them a scale and a legend, each if the options ask for it. Only for `heights` and
+/// `numbers` it allocates memory. If the writer is a file, put a buffer round it.
 ///
 /// # Errors
 ///
-/// `OutOfMemory`: nothing was written; only with `heights`. `WriterFailed`: any part of the picture may have been
-/// written.
+/// `OutOfMemory`: nothing was written; only with `heights` or `numbers`. `WriterFailed`: any part of the picture may
+/// have been written.
 pub fn write_picture<W: Write>(
     alloc: Global,
     map: &Map,
@@ -268,10 +235,14 @@ pub fn write_picture<W: Write>(
     ensures refused { IfErr result (IsNotPictured options
         (W.contents writer.old) (W.contents writer.new)) }
 {
-    let Ok(found) = found_of(alloc, map, options.heights) else {
+    let view = view_of(map, options.crop);
+    let Ok(fills) = fills_text(alloc, map, options.heights) else {
         return Err(PictureError::OutOfMemory);
     };
-    match write_found(map, &found, options, overlay, writer) {
+    let Ok(numbers) = numbers_text(alloc, map, options.numbers, &view) else {
+        return Err(PictureError::OutOfMemory);
+    };
+    match write_with(map, view, &fills, &numbers, options, overlay, writer) {
         Ok(()) => Ok(()),
         Err(_) => Err(PictureError::WriterFailed),
     }

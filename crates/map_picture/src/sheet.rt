@@ -1,19 +1,15 @@
 //! The sheet on which a picture with a legend, a grid or a crop is drawn: the frame of the map, and what is beside and
 //! under the map.
-ghost use Rattle.std.specs.Prelude.{◌≡◌, ◌≤◌, true, OnOk};
+ghost use Rattle.std.specs.Prelude.{◌≡◌, ◌≤◌, OnOk};
 ghost use Rattle.std.specs.Io.KnownBytes.{Appends};
-ghost use Rattle.map_checks.specs.Findings.{findings};
 ghost use Rattle.map_picture.specs.Sheet.{around_text, closing_text, fills_text, frame_box, frame_text, frame_view, grid_text, ground_text, margin_text, margin_width, sheet_of, under_text};
 ghost use Rattle.map_picture.specs.Style.{sheet_style};
 
-use crate::fills::write_fills;
-use crate::floors::floor_heights;
 use crate::legend::write_legend;
 use crate::options::{PictureOptions, has_margin, is_framed};
 use crate::style::SHEET_STYLE;
 use crate::view::View;
 use lump_text::WriterFailed;
-use map_checks::Finding;
 use map_svg::write_bytes;
 use map_tables::Map;
 use std::io::Write;
@@ -116,26 +112,6 @@ fn write_grid<W: Write>(grid: bool, writer: &mut W) -> Result<(), WriterFailed>
     }
 }
 
-// Writes the areas of the closed sectors, if they are asked for, with the findings of the map.
-fn write_areas<W: Write>(
-    map: &Map,
-    wanted: bool,
-    found: &[Finding],
-    writer: &mut W,
-) -> Result<(), WriterFailed>
-    requires { wanted ≡ true → found.now ≡ findings map.now.tables }
-    ensures { OnOk result (Appends (W.contents writer.old) (W.contents writer.new)
-        (fills_text wanted map.now.tables)) }
-{
-    if !wanted {
-        return Ok(());
-    }
-    match floor_heights(map) {
-        Some(heights) => write_fills(map, found, heights, writer),
-        None => Ok(()),
-    }
-}
-
 // Writes the style of a sheet, the margin, and the beginning of the frame.
 #[tactic(auto, unfolding(crate::specs::Sheet::around_text))]
 fn write_around<W: Write>(
@@ -152,38 +128,38 @@ fn write_around<W: Write>(
     write_frame(view, writer)
 }
 
-// Writes what is round the map and under it.
+// Writes what is round the map and under it, with the text of the filled sectors.
 #[tactic(auto, unfolding(crate::specs::Sheet::ground_text))]
 fn write_ground<W: Write>(
     map: &Map,
     options: PictureOptions,
-    found: &[Finding],
+    fills: &[u8],
     view: &View,
     writer: &mut W,
 ) -> Result<(), WriterFailed>
-    requires { options.heights ≡ true → found.now ≡ findings map.now.tables }
+    requires { fills.now ≡ fills_text options.heights map.now.tables }
     ensures { OnOk result (Appends (W.contents writer.old) (W.contents writer.new)
         (ground_text options map.now.tables view.now)) }
 {
     write_around(map, options, view, writer)?;
     write_grid(options.grid, writer)?;
-    write_areas(map, options.heights, found, writer)
+    write_bytes(fills, writer)
 }
 
-/// Writes what is round the map and under it, if the map has a frame.
+/// Writes what is round the map and under it, if the map has a frame, with the text of the filled sectors.
 pub(crate) fn write_under<W: Write>(
     map: &Map,
     options: PictureOptions,
-    found: &[Finding],
+    fills: &[u8],
     view: &View,
     writer: &mut W,
 ) -> Result<(), WriterFailed>
-    requires { options.heights ≡ true → found.now ≡ findings map.now.tables }
+    requires { fills.now ≡ fills_text options.heights map.now.tables }
     ensures { OnOk result (Appends (W.contents writer.old) (W.contents writer.new)
         (under_text options map.now.tables view.now)) }
 {
     if is_framed(options) {
-        write_ground(map, options, found, view, writer)
+        write_ground(map, options, fills, view, writer)
     } else {
         Ok(())
     }

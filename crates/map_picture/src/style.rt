@@ -27,18 +27,16 @@ path{fill:none;stroke-width:2px;stroke-linecap:round;stroke-linejoin:round;vecto
 .monster path{fill:#dc2626;stroke:#7f1d1d}
 .item path{fill:#eab308;stroke:#854d0e}
 .other path{fill:#9ca3af;stroke:#374151}
-text{font-family:sans-serif;font-size:1.4em;text-anchor:middle;dominant-baseline:central}
+text{font-family:sans-serif;text-anchor:middle;dominant-baseline:central}
 text{stroke:#fff;stroke-width:.2em;paint-order:stroke}
 .of-vertex{fill:#1d4ed8}
 .of-line{fill:#222}
-.of-sector{fill:#15803d;fill-opacity:.6;stroke:none;font-size:2em;font-weight:bold}
-svg:has(#vertex299) text{font-size:12px}
-svg:has(#vertex299) .of-sector{font-size:20px}
+.of-thing{fill:#7e22ce}
+.of-sector{fill:#15803d;font-size:1.5em}
+.left-out{fill:#222;text-anchor:start}
 svg:has(#vertex299) .vertex{vector-effect:none;stroke-width:8px}
 svg:has(#vertex299) .tick{vector-effect:none;stroke-width:2px}
 @media (max-width:600px){
-text{font-size:2.4em}
-.of-sector{font-size:3.2em}
 .vertex{vector-effect:none;stroke-width:8px}
 .one path,[id^=sub] path{stroke-width:1.5px}
 .two path{stroke-width:1px}
@@ -67,7 +65,9 @@ text{font-size:2.4em}
 text{stroke:#111}
 .of-vertex{fill:#93c5fd}
 .of-line{fill:#eee}
+.of-thing{fill:#d8b4fe}
 .of-sector{fill:#4ade80}
+.left-out{fill:#eee}
 }
 </style>
 ";

@@ -1,5 +1,5 @@
 //! The part of the plane that the picture shows.
-ghost use Rattle.std.specs.Prelude.{◌≡◌, ◌≤◌, ◌-ℤ◌, pos, neg_ℤ, slice_get};
+ghost use Rattle.std.specs.Prelude.{◌≡◌, ◌≤◌, ◌+ℤ◌, ◌-ℤ◌, pos, neg_ℤ, slice_get};
 ghost use Rattle.std.specs.Int.{int_max, int_min};
 ghost use Rattle.std.specs.Option.{option_map_or};
 ghost use Rattle.map_picture.specs.View.{box_at, picture_box, box_of_vertices, box_with, grown, distance, grown_by, picture_side, step_of, view_of, view_of_box, whole_view, view_within};
@@ -16,6 +16,20 @@ pub(crate) struct View {
     pub width: u32,
     pub height: u32,
     pub step: u32,
+}
+
+/// The right edge of the page.
+pub(crate) fn right_edge(view: &View) -> i64
+    ensures { result ≡ view.now.left +ℤ pos view.now.width }
+{
+    i64::from(view.left) + i64::from(view.width)
+}
+
+/// The lower edge of the page.
+pub(crate) fn lower_edge(view: &View) -> i64
+    ensures { result ≡ view.now.top +ℤ pos view.now.height }
+{
+    i64::from(view.top) + i64::from(view.height)
 }
 
 // The box round a single place.

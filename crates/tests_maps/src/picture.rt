@@ -1,7 +1,7 @@
 //! The pictures of worked maps.
 
 use crate::drawing::{ROOM, SECTOR, SIDE, drawn};
-use crate::expect::same;
+use crate::expect::{holds, same};
 use lump_records::{Bounds, Node, Seg, Sub, Vertex};
 use lump_text::WriterFailed;
 use map_picture::{PictureError, PictureOptions, STYLE, write_picture};
@@ -46,17 +46,20 @@ const BACK: &[u8] = br#"<rect class="page" x="-64" y="-192" width="256" height="
 <path id="vertex3" class="vertex" d="M128 0h0"><title>vertex 3: 128 0</title></path>
 "#;
 
-// Its numbers: a vertex's to the upper right, a line's on the left, and the sector's on the right of line 0, the first
-// of the four longest lines.
-const NUMBERS: &[u8] = br#"<text class="of-vertex" x="0" y="0" dx="8" dy="-8">0</text>
-<text class="of-vertex" x="0" y="-128" dx="8" dy="-8">1</text>
-<text class="of-vertex" x="128" y="-128" dx="8" dy="-8">2</text>
-<text class="of-vertex" x="128" y="0" dx="8" dy="-8">3</text>
+// Its numbers: the sector's on the right of line 0, the first of the four longest lines, a line's on the left, a
+// vertex's to the upper right, and the thing's, outside of its mark. The texts are 7 * 8 / 5 = 11 high.
+const NUMBERS: &[u8] = br#"<g id="numbers" font-size="11">
+<text class="of-sector" x="0" y="-64" dx="24" dy="0">0</text>
 <text class="of-line" x="0" y="-64" dx="-8" dy="0">0</text>
 <text class="of-line" x="64" y="-128" dx="0" dy="-8">1</text>
 <text class="of-line" x="128" y="-64" dx="8" dy="0">2</text>
 <text class="of-line" x="64" y="0" dx="0" dy="8">3</text>
-<text class="of-sector" x="0" y="-64" dx="24" dy="0">0</text>
+<text class="of-vertex" x="0" y="0" dx="8" dy="-8">0</text>
+<text class="of-vertex" x="0" y="-128" dx="8" dy="-8">1</text>
+<text class="of-vertex" x="128" y="-128" dx="8" dy="-8">2</text>
+<text class="of-vertex" x="128" y="0" dx="8" dy="-8">3</text>
+<text class="of-thing" x="64" y="-64" dx="24" dy="-24">0</text>
+</g>
 "#;
 
 // A slanting line between two sectors, with a special, and a thing of each other group.
@@ -93,12 +96,68 @@ const SLANT_BACK: &[u8] = br#"<rect class="page" x="-64" y="-64" width="229" hei
 <path id="vertex1" class="vertex" d="M101 30h0"><title>vertex 1: 101 -30</title></path>
 "#;
 
-// Sector 1 is on the left, opposite to the tick and three times as far: 30 * 24 / 101 = 7.1, rounded.
-const SLANT_NUMBERS: &[u8] = br#"<text class="of-vertex" x="0" y="0" dx="8" dy="-8">0</text>
-<text class="of-vertex" x="101" y="30" dx="8" dy="-8">1</text>
-<text class="of-line" x="50" y="15" dx="2" dy="-8">0</text>
+// Sector 1 is on the left, opposite to the tick and three times as far: 30 * 24 / 101 = 7.1, rounded. The boxes of the
+// things' numbers reach 4 to each side of their middles, and 6 up and down. So each next one, a unit beside the last,
+// takes the next corner: upper left, lower right, lower left.
+const SLANT_NUMBERS: &[u8] = br#"<g id="numbers" font-size="11">
 <text class="of-sector" x="50" y="15" dx="-7" dy="24">0</text>
 <text class="of-sector" x="50" y="15" dx="7" dy="-24">1</text>
+<text class="of-line" x="50" y="15" dx="2" dy="-8">0</text>
+<text class="of-vertex" x="0" y="0" dx="8" dy="-8">0</text>
+<text class="of-vertex" x="101" y="30" dx="8" dy="-8">1</text>
+<text class="of-thing" x="50" y="10" dx="24" dy="-24">0</text>
+<text class="of-thing" x="51" y="11" dx="-24" dy="-24">1</text>
+<text class="of-thing" x="52" y="12" dx="24" dy="24">2</text>
+<text class="of-thing" x="53" y="13" dx="-24" dy="24">3</text>
+</g>
+"#;
+
+// Five vertices, each a unit from the next: the four corners have room for four of their numbers. The page is 132 by
+// 128 units, so the note begins a tick's length inside its lower left corner.
+const CROWD: [&[u8]; 5] = [
+    b"vertex 0 0",
+    b"vertex 1 0",
+    b"vertex 2 0",
+    b"vertex 3 0",
+    b"vertex 4 0",
+];
+
+const CROWD_NUMBERS: &[u8] = br#"<g id="numbers" font-size="11">
+<text class="of-vertex" x="0" y="0" dx="8" dy="-8">0</text>
+<text class="of-vertex" x="1" y="0" dx="-8" dy="-8">1</text>
+<text class="of-vertex" x="2" y="0" dx="8" dy="8">2</text>
+<text class="of-vertex" x="3" y="0" dx="-8" dy="8">3</text>
+</g>
+<text class="left-out" x="-56" y="56">1 number is left out: look at a part with --crop</text>
+</svg>
+"#;
+
+// Four sectors in a ring round a vertex, between four lines of 8 units, which lead to the east, north, west and south.
+#[rattlefmt::skip]
+const RING: [&[u8]; 17] = [
+    b"vertex 0 0", b"vertex 8 0", b"vertex 0 8", b"vertex -8 0", b"vertex 0 -8",
+    SECTOR, SECTOR, SECTOR, SECTOR,
+    SIDE, b"side 0 0 - - - 1", b"side 0 0 - - - 2", b"side 0 0 - - - 3",
+    b"line 0 1 4 0 0 0 1", b"line 0 2 4 0 0 1 2", b"line 0 3 4 0 0 2 3", b"line 0 4 4 0 0 3 0",
+];
+
+// A sector's number reaches 6 to each side and 9 up and down, another 4 and 6. Sector 3, whose longest line is line 2,
+// finds no room below it, since number 0 of a sector is from (-2,15) to (10,33) there; vertex 0 has the lines' numbers
+// at its four corners; vertex 3 lies between these and the number of sector 2; vertex 4 between those of lines 1, 2 and
+// 3 and of sector 0.
+const RING_NUMBERS: &[u8] = br#"<g id="numbers" font-size="11">
+<text class="of-sector" x="4" y="0" dx="0" dy="24">0</text>
+<text class="of-sector" x="4" y="0" dx="0" dy="-24">1</text>
+<text class="of-sector" x="0" y="-4" dx="-24" dy="0">2</text>
+<text class="of-line" x="4" y="0" dx="0" dy="-8">0</text>
+<text class="of-line" x="0" y="-4" dx="-8" dy="0">1</text>
+<text class="of-line" x="-4" y="0" dx="0" dy="8">2</text>
+<text class="of-line" x="0" y="4" dx="8" dy="0">3</text>
+<text class="of-vertex" x="8" y="0" dx="8" dy="-8">1</text>
+<text class="of-vertex" x="0" y="-8" dx="-8" dy="-8">2</text>
+</g>
+<text class="left-out" x="-64" y="64">4 numbers are left out: look at a part with --crop</text>
+</svg>
 "#;
 
 const END: &[u8] = b"</svg>\n";
@@ -259,6 +318,15 @@ fn draws_a_slanting_line(rt: HostRuntime) -> Result<(), Fail> {
         &found,
         &joined(rt.alloc(), SLANT_FRONT, &[SLANT_BACK, SLANT_NUMBERS, END])?,
     );
+    Ok(())
+}
+
+#[test]
+fn leaves_out_numbers_without_room(rt: HostRuntime) -> Result<(), Fail> {
+    let crowd = picture(rt.alloc(), &CROWD, true)?;
+    holds(&rt, crowd.ends_with(CROWD_NUMBERS));
+    let ring = picture(rt.alloc(), &RING, true)?;
+    holds(&rt, ring.ends_with(RING_NUMBERS));
     Ok(())
 }
 

@@ -1,10 +1,11 @@
-//! The pictures of worked maps with heights, a grid and a crop.
+//! The pictures of worked maps with heights, a grid and a crop, and how large their numbers are.
 
-use crate::drawing::{ROOM, drawn};
-use crate::expect::same;
+use crate::drawing::{AMPLE, ROOM, answer, drawn};
+use crate::expect::{holds, same};
 use lump_records::Bounds;
 use map_picture::{PictureOptions, SHEET_STYLE, STYLE, write_picture};
 use map_svg::Overlay;
+use map_tables::Maps;
 use std::alloc::Global;
 use std::test::Fail;
 
@@ -132,6 +133,80 @@ const BARE_BACK: &[u8] = br#"<g id="legend" font-size="1.6em" transform="transla
 </svg>
 "#;
 
+// A box whose lower edge is 18 below the five vertices of a crowd, so that the note is where the numbers below them
+// would be: two numbers have room above them.
+const ABOVE_NOTE: Bounds = Bounds {
+    top: 82,
+    bottom: -18,
+    left: -100,
+    right: 100,
+};
+
+const CROWD: [&[u8]; 5] = [
+    b"vertex 0 0",
+    b"vertex 1 0",
+    b"vertex 2 0",
+    b"vertex 3 0",
+    b"vertex 4 0",
+];
+
+const CROWD_NUMBERS: &[u8] = br#"<g id="numbers" font-size="11">
+<text class="of-vertex" x="0" y="0" dx="8" dy="-8">0</text>
+<text class="of-vertex" x="1" y="0" dx="-8" dy="-8">1</text>
+</g>
+<text class="left-out" x="-92" y="10">3 numbers are left out: look at a part with --crop</text>
+</svg>
+</svg>
+"#;
+
+// A box beside them: what it doesn't show has no number, and isn't left out.
+const BESIDE: Bounds = Bounds {
+    top: 100,
+    bottom: -100,
+    left: 4,
+    right: 100,
+};
+
+const BESIDE_NUMBERS: &[u8] = br#"<g id="numbers" font-size="11">
+<text class="of-vertex" x="4" y="0" dx="8" dy="-8">4</text>
+</g>
+</svg>
+</svg>
+"#;
+
+// Two rooms of 128 by 128, side by side, of which the left one also has a line within it.
+#[rattlefmt::skip]
+const ROOMS: [&[u8]; 12] = [
+    ROOM, b"sector 8 128 FLAT1 FLAT2 160 0 0", b"side 0 0 - - - 1", b"side 0 0 - - STARTAN3 1",
+    b"set-side 2 0 0 - - - 0",
+    b"vertex 256 128", b"vertex 256 0", b"set-line 2 2 3 4 0 0 2 4",
+    b"line 2 4 1 0 0 5 -", b"line 4 5 1 0 0 5 -", b"line 5 3 1 0 0 5 -", b"line 0 2 4 0 0 2 2",
+];
+
+// Line 2 leads down with the left room on its right and the right room on its left, so that one goes back along it.
+// Line 7 has the left room on both sides, and is no edge of it.
+const LEFT_ROOM: &[u8] = b"\" fill-rule=\"evenodd\" \
+d=\"M0 0L0 0 0 -128 0 0L0 -128 128 -128 0 0L128 -128 128 0 0 0L128 0 0 0 0 0\">
+<title>sector 0:";
+
+const RIGHT_ROOM: &[u8] = b"\" fill-rule=\"evenodd\" \
+d=\"M0 0L128 0 128 -128 0 0L128 -128 256 -128 0 0L256 -128 256 0 0 0L256 0 128 0 0 0\">
+<title>sector 1:";
+
+// How many vertices are in a row, 50 units apart, and the beginning of their numbers. The page is 128 units wider than
+// the row. The ticks are a 96th of it, so 33, 34, 133 and 134 long: the texts are 46, 34, 133 and 67 high.
+const ROWS: &[(u32, &[u8])] = &[
+    (63, b"<g id=\"numbers\" font-size=\"46\">"),
+    (64, b"<g id=\"numbers\" font-size=\"34\">"),
+    (255, b"<g id=\"numbers\" font-size=\"133\">"),
+    (256, b"<g id=\"numbers\" font-size=\"67\">"),
+];
+
+// Whether the text has the part somewhere.
+fn has(text: &[u8], part: &[u8]) -> bool {
+    text.windows(part.len().max(1)).any(|window| window == part)
+}
+
 // Only these of what the options add to a map.
 fn with(heights: bool, grid: bool, crop: Option<Bounds>) -> PictureOptions {
     PictureOptions {
@@ -142,8 +217,18 @@ fn with(heights: bool, grid: bool, crop: Option<Bounds>) -> PictureOptions {
     }
 }
 
-// The picture of what these lines draw.
-fn picture(alloc: Global, lines: &[&[u8]], options: PictureOptions) -> Result<Vec<u8>, Fail> {
+// With numbers, and the box, if there is one.
+fn numbered(crop: Option<Bounds>) -> PictureOptions {
+    PictureOptions {
+        numbers: true,
+        heights: false,
+        grid: false,
+        crop,
+    }
+}
+
+// The picture of the current map.
+fn shown(alloc: Global, maps: &Maps, options: PictureOptions) -> Result<Vec<u8>, Fail> {
     let overlay = Overlay {
         vertices: Vec::new(alloc),
         segs: Vec::new(alloc),
@@ -151,10 +236,32 @@ fn picture(alloc: Global, lines: &[&[u8]], options: PictureOptions) -> Result<Ve
         nodes: Vec::new(alloc),
         marks: Vec::new(alloc),
     };
-    let maps = drawn(alloc, lines)?;
     let mut text = Vec::new(alloc);
     write_picture(alloc, maps.current(), options, &overlay, &mut text)?;
     Ok(text)
+}
+
+// The picture of what these lines draw.
+fn picture(alloc: Global, lines: &[&[u8]], options: PictureOptions) -> Result<Vec<u8>, Fail> {
+    let maps = drawn(alloc, lines)?;
+    shown(alloc, &maps, options)
+}
+
+// Adds so many vertices, 50 units apart.
+fn draw_row(alloc: Global, maps: &mut Maps, count: u32) -> Result<(), Fail> {
+    for n in 0..count {
+        let x = n.saturating_mul(50);
+        let line = format!(in alloc; "vertex {x} 0")?;
+        let _ = answer(maps, line.as_bytes(), AMPLE);
+    }
+    Ok(())
+}
+
+// The picture of a row of so many vertices, with numbers.
+fn row(alloc: Global, count: u32) -> Result<Vec<u8>, Fail> {
+    let mut maps = Maps::new(alloc);
+    draw_row(alloc, &mut maps, count)?;
+    shown(alloc, &maps, numbered(None))
 }
 
 // These texts one after the other, with the style after the first, and that of a sheet after the second.
@@ -183,6 +290,32 @@ fn shows_only_a_box(rt: HostRuntime) -> Result<(), Fail> {
     let found = picture(rt.alloc(), &lines, with(false, false, Some(REVERSED)))?;
     let wanted = joined(rt.alloc(), CROPPED_FRONT, CROPPED_PAGE, &[CROPPED])?;
     same(&rt, &found, &wanted);
+    Ok(())
+}
+
+#[test]
+fn keeps_the_note_free(rt: HostRuntime) -> Result<(), Fail> {
+    let above = picture(rt.alloc(), &CROWD, numbered(Some(ABOVE_NOTE)))?;
+    holds(&rt, above.ends_with(CROWD_NUMBERS));
+    let beside = picture(rt.alloc(), &CROWD, numbered(Some(BESIDE)))?;
+    holds(&rt, beside.ends_with(BESIDE_NUMBERS));
+    Ok(())
+}
+
+#[test]
+fn numbers_are_smaller_on_a_full_page(rt: HostRuntime) -> Result<(), Fail> {
+    for &(count, opening) in ROWS {
+        let found = row(rt.alloc(), count)?;
+        holds(&rt, has(&found, opening));
+    }
+    Ok(())
+}
+
+#[test]
+fn fills_rooms_side_by_side(rt: HostRuntime) -> Result<(), Fail> {
+    let found = picture(rt.alloc(), &ROOMS, with(true, false, None))?;
+    holds(&rt, has(&found, LEFT_ROOM));
+    holds(&rt, has(&found, RIGHT_ROOM));
     Ok(())
 }
 

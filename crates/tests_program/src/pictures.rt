@@ -28,7 +28,9 @@ const BACK: &[u8] = br#"<rect class="page" x="-64" y="-64" width="128" height="1
 // The part after the style with the vertex's number.
 const NUMBERED: &[u8] = br#"<rect class="page" x="-64" y="-64" width="128" height="128"/>
 <path id="vertex0" class="vertex" d="M0 0h0"><title>vertex 0: 0 0</title></path>
+<g id="numbers" font-size="11">
 <text class="of-vertex" x="0" y="0" dx="8" dy="-8">0</text>
+</g>
 </svg>
 "#;
 
