@@ -1,6 +1,7 @@
 pub mod Counting
 pub mod DumpedLemmas
 pub mod Examined
+pub mod JoinedLines
 pub mod Rebuilding
 pub mod Salvaging
 pub mod Scripted

@@ -12,10 +12,11 @@ use Rattle.run_script.specs.declared.error.ScriptError.TheVariants as cut
 use Rattle.cli_program.specs.Kinds.{IsQuiet}
 use Rattle.std.proofs.lemmas.Option.{slice_get-get_or}
 use Rattle.std.specs.Prelude.{IfOk, IfSome, slice_get}
-use Rattle.map_script.specs.Scripts.{script_lines}
+use Rattle.run_script.specs.Refused.{IsStopWithin, blocks_text}
 use Rattle.store_disk.specs.declared.disk.Disk.{Ghosts}
-use Rattle.cli_program.specs.Drawing.{IsHandedOn, ShowsStop, TellsRefused, TellsStopFrom}
-use Rattle.cli_program.specs.DrawnInto.{IsDrawnInto}
+use Rattle.cli_program.specs.Drawing.{IsHandedOn, IsStopTold, TellsRefused, TellsStopFrom}
+use Rattle.cli_program.specs.DrawnInto.{IsDrawnInto, IsScriptTried, IsTriedOntoSome}
+use Rattle.cli_program.specs.Including.{ShowsTold}
 
 apart : (n : ℕ) → n ≡ 3 → n ≡ 0 → ⊥
 apart n three none = omega arith
@@ -30,34 +31,49 @@ whole_end (Err cut.OutOfMemory) how u w (inr failed) is = cc
 whole_end (Err cut.WriterFailed) how u w (inl (ended, kept)) is = cc
 whole_end (Err cut.WriterFailed) how u w (inr failed) is = cc
 
--- where the script is one of a file, or of the input, for the same reason
-pub drawn_into_as : {D : Type 0} (facts : Ghosts D) (a b verbose : Bool) (how : Result ℕ Refusal) (u v w x : Option (List ℕ)) → a ≡ b
+-- the same of a path that is given in another way
+pub drawn_into_as : {D : Type 0} (facts : Ghosts D) (a b : List ℕ) (verbose : Bool) (how : Result ℕ Refusal) (u v w x : Option (List ℕ)) → a ≡ b
     → IsDrawnInto facts a verbose how u v w x → IsDrawnInto facts b verbose how u v w x
-drawn_into_as facts a b verbose how u v w x same drawn = subst (λ (t : Bool). IsDrawnInto facts t verbose how u v w x) same drawn
+drawn_into_as facts a b verbose how u v w x same drawn = subst (λ (t : List ℕ). IsDrawnInto facts t verbose how u v w x) same drawn
+
+pub tried_as : (a b : List ℕ) (verbose : Bool) (how : Result ℕ Refusal) (u v w x : Option (List ℕ)) → a ≡ b
+    → IsScriptTried a verbose how u v w x → IsScriptTried b verbose how u v w x
+tried_as a b verbose how u v w x same tried = subst (λ (t : List ℕ). IsScriptTried t verbose how u v w x) same tried
+
+pub tried_onto_as : (a b : List ℕ) (verbose : Bool) (how : Result ℕ Refusal) (u v w x : Option (List ℕ)) → a ≡ b
+    → IsTriedOntoSome a verbose how u v w x → IsTriedOntoSome b verbose how u v w x
+tried_onto_as a b verbose how u v w x same tried = subst (λ (t : List ℕ). IsTriedOntoSome t verbose how u v w x) same tried
 
 -- the line was told that was refused
-pub told_refused : {U : Type 0} (told : Result U ScriptError) (script : List ℕ) (lines : List (ℕ × List ℕ)) (drawn : Result (Option Stop) ScriptError) (field : Option Stop)
-    (stop : Stop) (d x : Option (List ℕ)) → drawn ≡ Ok field → field ≡ Some stop → IfOk drawn (λ o. IfSome o (λ s. s.place < length lines))
-    → ((line : ℕ × List ℕ) → slice_get lines stop.place ≡ Some line → ShowsStop told script line stop.code d x) → TellsRefused told script lines drawn d x
-told_refused told script lines drawn field stop d x whole some within said =
-    let below : stop.place < length lines = subst (λ (r : Result (Option Stop) ScriptError). IfOk r (λ o. IfSome o (λ s. s.place < length lines))) (whole ∙ ap Ok some) within in
+pub told_refused : {U : Type 0} (told : Result U ScriptError) (lines : List (ℕ × List ℕ)) (files : List (List ℕ)) (drawn : Result (Option Stop) ScriptError)
+    (field : Option Stop) (stop : Stop) (d x : Option (List ℕ)) → drawn ≡ Ok field → field ≡ Some stop
+    → IfOk drawn (λ o. IfSome o (IsStopWithin (length lines))) → length files ≡ length lines
+    → ((file : List ℕ) (line : ℕ × List ℕ) → slice_get files stop.place ≡ Some file → slice_get lines stop.place ≡ Some line
+    → ShowsTold told (IsStopTold file line stop.code (blocks_text lines files stop.«open».items)) d x) → TellsRefused told lines files drawn d x
+told_refused told lines files drawn field stop d x whole some within long said =
+    let both : IsStopWithin (length lines) stop =
+    subst (λ (r : Result (Option Stop) ScriptError). IfOk r (λ o. IfSome o (IsStopWithin (length lines)))) (whole ∙ ap Ok some) within in
+    let below : stop.place < length lines = both.0 in
+    let inside : stop.place < length files = omega (arith, below, long) in
     let line : ℕ × List ℕ = get_or lines stop.place (0, []) in
+    let file : List ℕ = get_or files stop.place [] in
     let is : slice_get lines stop.place ≡ Some line = slice_get-get_or lines stop.place (0, []) below in
-    subst (λ (r : Result (Option Stop) ScriptError). TellsRefused told script lines r d x) (sym (whole ∙ ap Ok some)) (line, is, said line is)
+    let in_file : slice_get files stop.place ≡ Some file = slice_get-get_or files stop.place [] inside in
+    subst (λ (r : Result (Option Stop) ScriptError). TellsRefused told lines files r d x) (sym (whole ∙ ap Ok some)) (line, file, is, in_file, said file line in_file is)
 
 -- a script that was drawn, and how it ended, with what was told of it
-pub told_end : {S : Type 0} (facts : canvas.Ghosts S) (verbose : Bool) (name script : List ℕ) (lines : List (ℕ × List ℕ)) (drawn : Result (Option Stop) ScriptError)
-    (told : Result (Unit {0}) ScriptError) (old new : S) (how : Result ℕ Refusal) (u v w d x : Option (List ℕ)) → lines ≡ script_lines script
-    → IsScriptDrawn facts verbose (script_lines script) drawn old u new v → IsHandedOn drawn how v w → TellsRefused told name lines drawn d x
-    → IfOk how (λ s. (s ≡ 0) ⊎ ((s ≡ 3) × TellsStopFrom facts verbose name script old u d x))
-told_end facts verbose name script lines (Ok None) told old new how u v w d x same is (inl (ended, kept)) said =
-    subst (λ (h : Result ℕ Refusal). IfOk h (λ s. (s ≡ 0) ⊎ ((s ≡ 3) × TellsStopFrom facts verbose name script old u d x))) (sym ended) (inl refl)
-told_end facts verbose name script lines (Ok (Some stop)) told old new how u v w d x same is (inl (ended, kept)) said =
-    subst (λ (h : Result ℕ Refusal). IfOk h (λ s. (s ≡ 0) ⊎ ((s ≡ 3) × TellsStopFrom facts verbose name script old u d x))) (sym ended)
-    (inr (refl, (stop, new, v, is, told, subst (λ (ls : List (ℕ × List ℕ)). TellsRefused told name ls (Ok (Some stop)) d x) same said)))
-told_end facts verbose name script lines (Err cut.OutOfMemory) told old new how u v w d x same is (inl (ended, kept)) said =
-    subst (λ (h : Result ℕ Refusal). IfOk h (λ s. (s ≡ 0) ⊎ ((s ≡ 3) × TellsStopFrom facts verbose name script old u d x))) (sym ended) tt
-told_end facts verbose name script lines (Err cut.WriterFailed) told old new how u v w d x same is (inl (ended, kept)) said =
-    subst (λ (h : Result ℕ Refusal). IfOk h (λ s. (s ≡ 0) ⊎ ((s ≡ 3) × TellsStopFrom facts verbose name script old u d x))) (sym ended) tt
-told_end facts verbose name script lines drawn told old new how u v w d x same is (inr failed) said =
-    subst (λ (h : Result ℕ Refusal). IfOk h (λ s. (s ≡ 0) ⊎ ((s ≡ 3) × TellsStopFrom facts verbose name script old u d x))) (sym failed) tt
+pub told_end : {S : Type 0} (facts : canvas.Ghosts S) (verbose : Bool) (lines : List (ℕ × List ℕ)) (files : List (List ℕ)) (drawn : Result (Option Stop) ScriptError)
+    (told : Result (Unit {0}) ScriptError) (old new : S) (how : Result ℕ Refusal) (u v w d x : Option (List ℕ))
+    → IsScriptDrawn facts verbose lines drawn old u new v → IsHandedOn drawn how v w → TellsRefused told lines files drawn d x
+    → IfOk how (λ s. (s ≡ 0) ⊎ ((s ≡ 3) × TellsStopFrom facts verbose lines files old u d x))
+told_end facts verbose lines files (Ok None) told old new how u v w d x is (inl (ended, kept)) said =
+    subst (λ (h : Result ℕ Refusal). IfOk h (λ s. (s ≡ 0) ⊎ ((s ≡ 3) × TellsStopFrom facts verbose lines files old u d x))) (sym ended) (inl refl)
+told_end facts verbose lines files (Ok (Some stop)) told old new how u v w d x is (inl (ended, kept)) said =
+    subst (λ (h : Result ℕ Refusal). IfOk h (λ s. (s ≡ 0) ⊎ ((s ≡ 3) × TellsStopFrom facts verbose lines files old u d x))) (sym ended)
+    (inr (refl, (stop, new, v, is, told, said)))
+told_end facts verbose lines files (Err cut.OutOfMemory) told old new how u v w d x is (inl (ended, kept)) said =
+    subst (λ (h : Result ℕ Refusal). IfOk h (λ s. (s ≡ 0) ⊎ ((s ≡ 3) × TellsStopFrom facts verbose lines files old u d x))) (sym ended) tt
+told_end facts verbose lines files (Err cut.WriterFailed) told old new how u v w d x is (inl (ended, kept)) said =
+    subst (λ (h : Result ℕ Refusal). IfOk h (λ s. (s ≡ 0) ⊎ ((s ≡ 3) × TellsStopFrom facts verbose lines files old u d x))) (sym ended) tt
+told_end facts verbose lines files drawn told old new how u v w d x is (inr failed) said =
+    subst (λ (h : Result ℕ Refusal). IfOk h (λ s. (s ≡ 0) ⊎ ((s ≡ 3) × TellsStopFrom facts verbose lines files old u d x))) (sym failed) tt

@@ -122,11 +122,11 @@ edited facts before after how r s u w (inl ((e, is, refused, counted), only, unr
 edited facts before after how r s u w (inr (result, first, last, trace, opened, back, is, ran, over)) =
     inr (result, first, last, trace, opened.reopen, is, ran, over)
 
-pub drawn_onto_some : {D : Type 0} (facts : Ghosts D) (before after : D) (verbose : Bool) (script : List ℕ) (how : Result ℕ Refusal) (u w : Option (List ℕ))
-    → IsDrawnOver facts before after verbose script how u w → EndsUnopened how u w ⊎ IsDrawnOntoSome facts verbose script how u w
-drawn_onto_some facts before after verbose script how u w (inl ((e, is, refused, counted), only, unwritten)) =
+pub drawn_onto_some : {D : Type 0} (facts : Ghosts D) (before after : D) (verbose : Bool) (lines : List (ℕ × List ℕ)) (how : Result ℕ Refusal) (u w : Option (List ℕ))
+    → IsDrawnOver facts before after verbose lines how u w → EndsUnopened how u w ⊎ IsDrawnOntoSome facts verbose lines how u w
+drawn_onto_some facts before after verbose lines how u w (inl ((e, is, refused, counted), only, unwritten)) =
     inl (e, is, of_opening (facts.reads before) e refused, unwritten)
-drawn_onto_some facts before after verbose script how u w (inr (project, opened, done)) = inr (project, after, opened.reopen, done)
+drawn_onto_some facts before after verbose lines how u w (inr (project, opened, done)) = inr (project, after, opened.reopen, done)
 
 -- what was done over a disk, by what it reads and by how its faults are counted
 abbrev pub OverMapsBy : (List ℕ → Type 0) → (ProjectError → Type 0) → Result ℕ Refusal → Option (List ℕ) → Option (List ℕ) → (MapsView → Type 0) → Type 0

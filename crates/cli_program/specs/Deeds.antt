@@ -1,6 +1,6 @@
 -- What was done for a request (docs/COMMANDS.md, "The program"). How it ended is a status, or the
 -- refusal. A file tells no bytes, so which project, WAD or script it was is left open.
-use Rattle.std.specs.Prelude.{◌≡◌, ◌⊎◌, ℕ, Bool, Option, None, Some, Result, Ok, Err, List, [], ◌∷◌, ◌++◌, codes, string_bytes, false, is_some, map, option_map}
+use Rattle.std.specs.Prelude.{◌≡◌, ◌⊎◌, ℕ, Bool, Option, None, Some, Result, Ok, Err, List, [], ◌∷◌, ◌++◌, codes, string_bytes, false, map, option_map}
 use Rattle.std.specs.Io.KnownBytes.{Appends, Keeps}
 use Rattle.store_disk.specs.declared.disk.Disk.{Ghosts}
 use Rattle.map_tables.specs.Projects.{ProjectMaps, empty_project}
@@ -8,7 +8,7 @@ use Rattle.store_project.specs.Places.{IsAllowed}
 use Rattle.store_project.specs.States.{State}
 use Rattle.store_project.specs.declared.error.ProjectError.{ProjectError}
 use Rattle.run_edit.specs.Answers.{RepliesInMemory}
-use Rattle.cli_program.specs.DrawnInto.{IsDrawnInto, IsScriptTried, IsTriedOntoSome}
+use Rattle.cli_program.specs.DrawnInto.{IsDrawnInto, IsScriptTried, IsTriedOntoSome, script_path}
 use Rattle.run_edit.specs.Editing.{told_of}
 use Rattle.run_edit.specs.Inspections.{IsInspected}
 use Rattle.cli_program.specs.LevelNames.{IsListed}
@@ -70,7 +70,7 @@ IsExamined name (Ok status) writer-old writer-new =
     × IsInspected wad name sound writer-old writer-new
 IsExamined name (Err refusal) writer-old writer-new = NotExamined name refusal writer-old writer-new
 
--- what was done for a request that ended so; only a run reads the input
+-- what was done for a request that ended so; a run reads the input, and so does a script that is `-`
 abbrev pub IsPerformed : {D : Type 0} → Ghosts D → Request → Result ℕ Refusal → Option (List ℕ)
     → Option (List ℕ) → Option (List ℕ) → Option (List ℕ) → Type 0
 IsPerformed facts Scratch how reader-old reader-new writer-old writer-new =
@@ -80,32 +80,31 @@ IsPerformed facts (Create file slot journal) how reader-old reader-new writer-ol
 IsPerformed facts (Edit file) how reader-old reader-new writer-old writer-new =
     IsEdited facts how reader-old reader-new writer-old writer-new
 IsPerformed facts (Check file map) how reader-old reader-new writer-old writer-new =
-    IsDoneWithSome (Check file map) how writer-old writer-new × Keeps reader-old reader-new
+    IsDoneWithSome (Check file map) how reader-old reader-new writer-old writer-new
 IsPerformed facts (Lint file map iwad only except) how reader-old reader-new writer-old writer-new =
-    IsDoneWithSome (Lint file map iwad only except) how writer-old writer-new
-    × Keeps reader-old reader-new
+    IsDoneWithSome (Lint file map iwad only except) how reader-old reader-new writer-old writer-new
 IsPerformed facts (Draw file script verbose) how reader-old reader-new writer-old writer-new =
-    IsDrawnInto facts (is_some script) verbose how reader-old reader-new writer-old writer-new
+    IsDrawnInto facts (script_path (option_map string_bytes script)) verbose how
+    reader-old reader-new writer-old writer-new
 IsPerformed facts (TryScript script None verbose) how reader-old reader-new writer-old writer-new =
-    IsScriptTried verbose how writer-old writer-new × Keeps reader-old reader-new
+    IsScriptTried (string_bytes script) verbose how reader-old reader-new writer-old writer-new
 IsPerformed facts (TryScript script (Some over) verbose) how reader-old reader-new writer-old
     writer-new =
-    IsTriedOntoSome verbose how writer-old writer-new × Keeps reader-old reader-new
+    IsTriedOntoSome (string_bytes script) verbose how reader-old reader-new writer-old writer-new
 IsPerformed facts (Dump file names exact) how reader-old reader-new writer-old writer-new =
-    IsDoneWithSome (Dump file names exact) how writer-old writer-new × Keeps reader-old reader-new
+    IsDoneWithSome (Dump file names exact) how reader-old reader-new writer-old writer-new
 IsPerformed facts (Salvage file) how reader-old reader-new writer-old writer-new =
     IsSalvagedInto how writer-old writer-new × Keeps reader-old reader-new
 IsPerformed facts (Picture file map out numbers nodes lint heights grid crop) how reader-old
     reader-new writer-old writer-new =
-    IsDoneWithSome (Picture file map out numbers nodes lint heights grid crop) how writer-old
-    writer-new
-    × Keeps reader-old reader-new
+    IsDoneWithSome (Picture file map out numbers nodes lint heights grid crop) how
+    reader-old reader-new writer-old writer-new
 IsPerformed facts (Inspect wad name) how reader-old reader-new writer-old writer-new =
     IsExamined (string_bytes name) how writer-old writer-new × Keeps reader-old reader-new
 IsPerformed facts (Levels wad) how reader-old reader-new writer-old writer-new =
     IsListed how writer-old writer-new × Keeps reader-old reader-new
 IsPerformed facts (Build file out) how reader-old reader-new writer-old writer-new =
-    IsDoneWithSome (Build file out) how writer-old writer-new × Keeps reader-old reader-new
+    IsDoneWithSome (Build file out) how reader-old reader-new writer-old writer-new
 IsPerformed facts (Rebuild wad out maps) how reader-old reader-new writer-old writer-new =
     IsRebuiltInto (map string_bytes maps.items) how writer-old writer-new
     × Keeps reader-old reader-new

@@ -1,16 +1,15 @@
 -- What the request `draw` does (docs/COMMANDS.md, "Scripts").
 use Rattle.std.specs.Prelude.{◌≡◌, ◌⊎◌, ℕ, Bool, false, List, [], Option, Some, None, Result, Ok, Err, slice_get}
-use Rattle.std.specs.Io.KnownBytes.{Appends, Keeps}
-use Rattle.lump_text.specs.Shown.{shown_lines, shown_text}
-use Rattle.map_script.specs.Scripts.{script_lines}
+use Rattle.std.specs.Io.KnownBytes.{Keeps}
 use Rattle.run_script.specs.Canvases.{Drafted, draft_canvas, first_draft}
 use Rattle.run_script.specs.Drawn.{IsScriptDrawn}
-use Rattle.run_script.specs.Refused.{TellsStop}
+use Rattle.run_script.specs.Refused.{TellsStop, blocks_text}
 use Rattle.run_script.specs.declared.canvas.Canvas as canvas
 use Rattle.run_script.specs.declared.drawing.Stop.{Stop}
 use Rattle.run_script.specs.declared.error.ScriptError.{ScriptError}
 use Rattle.run_script.specs.declared.error.ScriptError.TheVariants as cut
 use Rattle.run_edit.specs.declared.error.EditorError.TheVariants.{OutOfMemory, WriterFailed}
+use Rattle.cli_program.specs.Including.{ShowsTold}
 use Rattle.cli_refusals.specs.declared.refusal.Refusal.{Refusal}
 use Rattle.cli_refusals.specs.declared.refusal.Refusal.TheVariants as of
 
@@ -34,14 +33,15 @@ IsHandedOn drawn how writer-old writer-new =
     ((how ≡ draw_end drawn) × Keeps writer-old writer-new) ⊎ (how ≡ Err (of.Lines WriterFailed))
 
 -- the lines of a script were drawn onto a canvas, as a script is drawn
-pub record IsScriptDone {S : Type 0} (facts : canvas.Ghosts S) (verbose : Bool) (script : List ℕ)
-    (how : Result ℕ Refusal) (old new : S) (writer-old writer-new : Option (List ℕ)) : Type 0 where
+pub record IsScriptDone {S : Type 0} (facts : canvas.Ghosts S) (verbose : Bool)
+    (lines : List (ℕ × List ℕ)) (how : Result ℕ Refusal) (old new : S)
+    (writer-old writer-new : Option (List ℕ)) : Type 0 where
   pub result : Result (Option Stop) ScriptError
   pub told : Option (List ℕ)
-  pub drawn : IsScriptDrawn facts verbose (script_lines script) result old writer-old new told
+  pub drawn : IsScriptDrawn facts verbose lines result old writer-old new told
   pub handed : IsHandedOn result how told writer-new
 
--- there was no memory for the lines of a script, and nothing was done
+-- there was no memory for the maps, and nothing was done
 pub record IsUndone {S : Type 0} (how : Result ℕ Refusal) (old new : S)
     (writer-old writer-new : Option (List ℕ)) : Type 0 where
   pub memory : how ≡ Err (of.Lines OutOfMemory)
@@ -49,72 +49,65 @@ pub record IsUndone {S : Type 0} (how : Result ℕ Refusal) (old new : S)
   pub unwritten : Keeps writer-old writer-new
 
 -- either of these
-abbrev pub IsDrawnOnto : {S : Type 0} → canvas.Ghosts S → Bool → List ℕ → Result ℕ Refusal → S → S
-    → Option (List ℕ) → Option (List ℕ) → Type 0
-IsDrawnOnto facts verbose script how old new writer-old writer-new =
+abbrev pub IsDrawnOnto : {S : Type 0} → canvas.Ghosts S → Bool → List (ℕ × List ℕ)
+    → Result ℕ Refusal → S → S → Option (List ℕ) → Option (List ℕ) → Type 0
+IsDrawnOnto facts verbose lines how old new writer-old writer-new =
     IsUndone how old new writer-old writer-new
-    ⊎ IsScriptDone facts verbose script how old new writer-old writer-new
+    ⊎ IsScriptDone facts verbose lines how old new writer-old writer-new
 
--- these bytes tell which line of a script was refused, and why, with the script's name as it is shown
-abbrev pub IsStopTold : List ℕ → ℕ × List ℕ → ℕ → List ℕ → Type 0
-IsStopTold script line code told =
-    TellsStop {U = Unit {0}} (Ok tt) (shown_text script) line code (Some []) (Some told)
+-- these bytes tell which line of a file was refused, and why, and the blocks that were open
+abbrev pub IsStopTold : List ℕ → ℕ × List ℕ → ℕ → List ℕ → List ℕ → Type 0
+IsStopTold file line code blocks told =
+    TellsStop {U = Unit {0}} (Ok tt) file line code blocks (Some []) (Some told)
 
--- such bytes are shown on standard error line by line; or memory or the writer failed
-abbrev pub ShowsStop : {U : Type 0} → Result U ScriptError → List ℕ → ℕ × List ℕ → ℕ
-    → Option (List ℕ) → Option (List ℕ) → Type 0
-ShowsStop (Ok u) script line code faults-old faults-new =
-    (told : List ℕ) × IsStopTold script line code told
-    × Appends faults-old faults-new (shown_lines told)
-ShowsStop (Err cut.OutOfMemory) script line code faults-old faults-new = Keeps faults-old faults-new
-ShowsStop (Err cut.WriterFailed) script line code faults-old faults-new = Unit {0}
-
--- this was told of the lines of a script that were drawn so: which one was refused, and why; and
--- nothing where none was
-abbrev pub TellsRefused : {U : Type 0} → Result U ScriptError → List ℕ → List (ℕ × List ℕ)
+-- this was told of the lines of a script that were drawn so: which one was refused, in which file,
+-- and why; and nothing where none was
+abbrev pub TellsRefused : {U : Type 0} → Result U ScriptError → List (ℕ × List ℕ) → List (List ℕ)
     → Result (Option Stop) ScriptError → Option (List ℕ) → Option (List ℕ) → Type 0
-TellsRefused told script lines (Ok (Some stop)) faults-old faults-new =
-    (line : ℕ × List ℕ) × (slice_get lines stop.place ≡ Some line)
-    × ShowsStop told script line stop.code faults-old faults-new
-TellsRefused told script lines (Ok None) faults-old faults-new = Keeps faults-old faults-new
-TellsRefused told script lines (Err e) faults-old faults-new = Keeps faults-old faults-new
+TellsRefused told lines files (Ok (Some stop)) faults-old faults-new =
+    (line : ℕ × List ℕ) × (file : List ℕ) × (slice_get lines stop.place ≡ Some line)
+    × (slice_get files stop.place ≡ Some file)
+    × ShowsTold told (IsStopTold file line stop.code (blocks_text lines files stop.«open».items))
+    faults-old faults-new
+TellsRefused told lines files (Ok None) faults-old faults-new = Keeps faults-old faults-new
+TellsRefused told lines files (Err e) faults-old faults-new = Keeps faults-old faults-new
 
--- a line of the script was refused, drawn from this canvas on, and it was told which one and why
-abbrev pub TellsStopFrom : {S : Type 0} → canvas.Ghosts S → Bool → List ℕ → List ℕ → S
-    → Option (List ℕ) → Option (List ℕ) → Option (List ℕ) → Type 0
-TellsStopFrom {S = S} facts verbose name script old writer-old faults-old faults-new =
+-- a line of a script was refused, drawn from this canvas on, and it was told which one and why
+abbrev pub TellsStopFrom : {S : Type 0} → canvas.Ghosts S → Bool → List (ℕ × List ℕ)
+    → List (List ℕ) → S → Option (List ℕ) → Option (List ℕ) → Option (List ℕ) → Type 0
+TellsStopFrom {S = S} facts verbose lines files old writer-old faults-old faults-new =
     (stop : Stop) × (new : S) × (writer-new : Option (List ℕ))
-    × IsScriptDrawn facts verbose (script_lines script) (Ok (Some stop)) old writer-old
-    new writer-new
+    × IsScriptDrawn facts verbose lines (Ok (Some stop)) old writer-old new writer-new
     × (told : Result (Unit {0}) ScriptError)
-    × TellsRefused told name (script_lines script) (Ok (Some stop)) faults-old faults-new
+    × TellsRefused told lines files (Ok (Some stop)) faults-old faults-new
 
 -- ---- Memory
 
--- the lines of the script were tried over these maps
-abbrev pub IsTriedOver : Drafted → Bool → List ℕ → Result ℕ Refusal → Option (List ℕ)
+-- the lines of a script were tried over these maps
+abbrev pub IsTriedOver : Drafted → Bool → List (ℕ × List ℕ) → Result ℕ Refusal → Option (List ℕ)
     → Option (List ℕ) → Type 0
-IsTriedOver first verbose script how writer-old writer-new =
-    (last : Drafted) × IsDrawnOnto draft_canvas verbose script how first last writer-old writer-new
+IsTriedOver first verbose lines how writer-old writer-new =
+    (last : Drafted) × IsDrawnOnto draft_canvas verbose lines how first last writer-old writer-new
 
 -- the same over the empty project
-abbrev pub IsTriedOn : Bool → List ℕ → Result ℕ Refusal → Option (List ℕ) → Option (List ℕ) → Type 0
+abbrev pub IsTriedOn : Bool → List (ℕ × List ℕ) → Result ℕ Refusal → Option (List ℕ)
+    → Option (List ℕ) → Type 0
 IsTriedOn = IsTriedOver first_draft
 
--- all lines of the script were drawn from these maps on to those, whatever its queries answered
-abbrev pub DrawsWhole : List ℕ → Drafted → Drafted → Type 0
-DrawsWhole text old new =
+-- all lines were drawn from these maps on to those, whatever their queries answered
+abbrev pub DrawsWhole : List (ℕ × List ℕ) → Drafted → Drafted → Type 0
+DrawsWhole lines old new =
     (answers : Option (List ℕ))
-    × IsScriptDrawn draft_canvas false (script_lines text) (Ok None) old None new answers
+    × IsScriptDrawn draft_canvas false lines (Ok None) old None new answers
 
--- a line of the script is refused if its lines are drawn from these maps on
-abbrev pub IsRefusedFrom : Drafted → List ℕ → Type 0
-IsRefusedFrom old text =
+-- a line is refused if these are drawn from these maps on
+abbrev pub IsRefusedFrom : Drafted → List (ℕ × List ℕ) → Type 0
+IsRefusedFrom old lines =
     (stop : Stop) × (new : Drafted) × (answers : Option (List ℕ))
-    × IsScriptDrawn draft_canvas false (script_lines text) (Ok (Some stop)) old None new answers
+    × IsScriptDrawn draft_canvas false lines (Ok (Some stop)) old None new answers
 
 -- how it ends where not all lines can be drawn from these maps on: one is refused, or memory is
 -- lacking
-abbrev pub IsHeldBack : Drafted → List ℕ → Result ℕ Refusal → Type 0
-IsHeldBack old text (Ok status) = (status ≡ 3) × IsRefusedFrom old text
-IsHeldBack old text (Err refusal) = refusal ≡ of.Lines OutOfMemory
+abbrev pub IsHeldBack : Drafted → List (ℕ × List ℕ) → Result ℕ Refusal → Type 0
+IsHeldBack old lines (Ok status) = (status ≡ 3) × IsRefusedFrom old lines
+IsHeldBack old lines (Err refusal) = refusal ≡ of.Lines OutOfMemory

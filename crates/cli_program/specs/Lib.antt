@@ -3,6 +3,7 @@ pub mod Drawing
 pub mod DrawnInto
 pub mod Dumped
 pub mod DrawnOver
+pub mod Including
 pub mod Kinds
 pub mod LevelNames
 pub mod Notes

@@ -1,7 +1,7 @@
 -- What is told on standard error that is no refusal (docs/COMMANDS.md, "The program").
 use Rattle.std.specs.Prelude.{◌≡◌, ℕ, Option, Result, Ok, List, map, string_bytes}
 use Rattle.cli_program.specs.Rebuilding.{IsRebuiltAt}
-use Rattle.cli_program.specs.SourceDeeds.{IsDoneWith}
+use Rattle.cli_program.specs.SourceDeeds.{IsDoneTelling}
 use Rattle.cli_refusals.specs.declared.refusal.Refusal.{Refusal}
 use Rattle.cli_words.specs.declared.asked.Request.{Request}
 use Rattle.cli_words.specs.declared.asked.Request.TheVariants.{Check, Lint, Dump, Picture, Build, Rebuild}
@@ -10,17 +10,17 @@ use Rattle.cli_words.specs.declared.asked.Request.TheVariants.{Check, Lint, Dump
 abbrev pub TellsNotes : Request → Result ℕ Refusal → Option (List ℕ) → Option (List ℕ)
     → Option (List ℕ) → Option (List ℕ) → Type 0
 TellsNotes (Check file map) how writer-old writer-new errors-old errors-new =
-    IsDoneWith (Check file map) how writer-old writer-new errors-old errors-new
+    IsDoneTelling (Check file map) how writer-old writer-new errors-old errors-new
 TellsNotes (Lint file map iwad only except) how writer-old writer-new errors-old errors-new =
-    IsDoneWith (Lint file map iwad only except) how writer-old writer-new errors-old errors-new
+    IsDoneTelling (Lint file map iwad only except) how writer-old writer-new errors-old errors-new
 TellsNotes (Dump file names exact) how writer-old writer-new errors-old errors-new =
-    IsDoneWith (Dump file names exact) how writer-old writer-new errors-old errors-new
+    IsDoneTelling (Dump file names exact) how writer-old writer-new errors-old errors-new
 TellsNotes (Picture file map out numbers nodes lint heights grid crop) how writer-old writer-new
     errors-old errors-new =
-    IsDoneWith (Picture file map out numbers nodes lint heights grid crop) how writer-old writer-new
-    errors-old errors-new
+    IsDoneTelling (Picture file map out numbers nodes lint heights grid crop) how
+    writer-old writer-new errors-old errors-new
 TellsNotes (Build file out) how writer-old writer-new errors-old errors-new =
-    IsDoneWith (Build file out) how writer-old writer-new errors-old errors-new
+    IsDoneTelling (Build file out) how writer-old writer-new errors-old errors-new
 TellsNotes (Rebuild wad out maps) how writer-old writer-new errors-old errors-new =
     IsRebuiltAt (map string_bytes maps.items) how writer-old writer-new errors-old errors-new
 TellsNotes request how writer-old writer-new errors-old errors-new = Unit {0}

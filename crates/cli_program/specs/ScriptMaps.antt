@@ -5,13 +5,16 @@ use Rattle.std.specs.Io.KnownBytes.{Keeps}
 use Rattle.map_tables.specs.Projects.{MapsView, ProjectMaps, project_of}
 use Rattle.map_tables.specs.Tables.{Tables, count_of}
 use Rattle.map_tables.specs.declared.kind.Kind.TheVariants.{Vertex, Sector, Side, Line, Thing}
+use Rattle.map_script.specs.Scripts.{script_lines}
 use Rattle.run_edit.specs.declared.error.EditorError.TheVariants.{OutOfMemory}
+use Rattle.store_project.specs.declared.error.ProjectError.TheVariants.{NotAProject}
 use Rattle.run_script.specs.Canvases.{ChangesDraft, Drafted, draft_canvas, first_draft}
 use Rattle.run_script.specs.Lines.{OneOf}
 use Rattle.cli_print.specs.Picturing.{is_called}
 use Rattle.cli_print.specs.Reading.{ReadsAll}
 use Rattle.cli_program.specs.Drawing.{DrawsWhole, TellsStopFrom}
-use Rattle.cli_program.specs.DrawnInto.{IsUnreadOf}
+use Rattle.cli_program.specs.DrawnInto.{IsRefusedFor, IsUnreadOf}
+use Rattle.cli_program.specs.Including.{IsScriptJoined, IsUnjoined}
 use Rattle.cli_refusals.specs.declared.refusal.Refusal.{Refusal}
 use Rattle.cli_refusals.specs.declared.refusal.Refusal.TheVariants as of
 
@@ -38,43 +41,53 @@ IsWithoutUntouched old new =
     ((outcome : Result ℕ ℕ) × ChangesDraft old (codes "drop-map MAP01") outcome new)
     (new ≡ old)
 
--- the maps are those that the script draws over the empty project
-abbrev pub AreDrawnBy : List ℕ → ProjectMaps → Type 0
-AreDrawnBy text p =
-    (last left : Drafted) × DrawsWhole text first_draft last × IsWithoutUntouched last left
+-- the maps are those that the script at a path, of this text, draws over the empty project with the
+-- files that it includes
+abbrev pub AreDrawnBy : List ℕ → List ℕ → ProjectMaps → Type 0
+AreDrawnBy path text p =
+    (lines : List (ℕ × List ℕ)) × (files : List (List ℕ))
+    × IsScriptJoined path (script_lines text) lines files
+    × (last left : Drafted) × DrawsWhole lines first_draft last × IsWithoutUntouched last left
     × (p ≡ left.maps)
 
 -- ---- How it ends
 
--- not all lines of the script were drawn from these maps on: one was refused and told, or there was
--- no memory
-abbrev pub IsStoppedFrom : Drafted → List ℕ → List ℕ → Result ℕ Refusal → Option (List ℕ)
-    → Option (List ℕ) → Type 0
-IsStoppedFrom old name text (Ok status) faults-old faults-new =
-    (status ≡ 3) × TellsStopFrom draft_canvas false name text old None faults-old faults-new
-IsStoppedFrom old name text (Err refusal) faults-old faults-new = refusal ≡ of.Lines OutOfMemory
+-- not all lines were drawn from these maps on: one was refused and told, or there was no memory
+abbrev pub IsStoppedFrom : Drafted → List (ℕ × List ℕ) → List (List ℕ) → Result ℕ Refusal
+    → Option (List ℕ) → Option (List ℕ) → Type 0
+IsStoppedFrom old lines files (Ok status) faults-old faults-new =
+    (status ≡ 3) × TellsStopFrom draft_canvas false lines files old None faults-old faults-new
+IsStoppedFrom old lines files (Err refusal) faults-old faults-new = refusal ≡ of.Lines OutOfMemory
 
--- the same over the empty project
+-- the script at a path, of this text, can't be joined; or not all of its lines can be drawn over the
+-- empty project
 abbrev pub IsStopped : List ℕ → List ℕ → Result ℕ Refusal → Option (List ℕ) → Option (List ℕ)
     → Type 0
-IsStopped name text how faults-old faults-new =
-    IsStoppedFrom first_draft name text how faults-old faults-new
+IsStopped path text how faults-old faults-new =
+    IsUnjoined path (script_lines text) how faults-old faults-new
+    ⊎ ((lines : List (ℕ × List ℕ)) × (files : List (List ℕ))
+    × IsScriptJoined path (script_lines text) lines files
+    × IsStoppedFrom first_draft lines files how faults-old faults-new)
+
+-- a script isn't read to its end, or what was read is none (42)
+abbrev pub IsUnscripted : Option (List ℕ) → Option (List ℕ) → Refusal → Type 0
+IsUnscripted reader-old reader-new refusal =
+    IsUnreadOf reader-old reader-new refusal ⊎ (refusal ≡ of.Project NotAProject)
 
 -- the maps are those that all that the reader gave draws, and nothing was told
-abbrev pub IsReadDrawn : Option (List ℕ) → Option (List ℕ) → ProjectMaps → Option (List ℕ)
-    → Option (List ℕ) → Type 0
-IsReadDrawn reader-old reader-new p faults-old faults-new =
-    (text : List ℕ) × ReadsAll reader-old reader-new text × AreDrawnBy text p
+abbrev pub IsReadDrawn : List ℕ → Option (List ℕ) → Option (List ℕ) → ProjectMaps
+    → Option (List ℕ) → Option (List ℕ) → Type 0
+IsReadDrawn path reader-old reader-new p faults-old faults-new =
+    (text : List ℕ) × ReadsAll reader-old reader-new text × AreDrawnBy path text p
     × Keeps faults-old faults-new
 
 -- the script can't be read, or not all of its lines were drawn
 abbrev pub NotReadDrawn : List ℕ → Option (List ℕ) → Option (List ℕ) → Result ℕ Refusal
     → Option (List ℕ) → Option (List ℕ) → Type 0
-NotReadDrawn name reader-old reader-new how faults-old faults-new =
-    ((refusal : Refusal) × (how ≡ Err refusal) × IsUnreadOf reader-old reader-new refusal
-    × Keeps faults-old faults-new)
+NotReadDrawn path reader-old reader-new how faults-old faults-new =
+    IsRefusedFor (IsUnscripted reader-old reader-new) how faults-old faults-new
     ⊎ ((text : List ℕ) × ReadsAll reader-old reader-new text
-    × IsStopped name text how faults-old faults-new)
+    × IsStopped path text how faults-old faults-new)
 
 -- ---- What was done
 
@@ -83,17 +96,17 @@ NotReadDrawn name reader-old reader-new how faults-old faults-new =
 abbrev pub OverScript : List ℕ → Option (List ℕ) → Option (List ℕ) → Result ℕ Refusal
     → Option (List ℕ) → Option (List ℕ) → Option (List ℕ) → Option (List ℕ)
     → (MapsView → Type 0) → Type 0
-OverScript name reader-old reader-new how writer-old writer-new faults-old faults-new does =
-    (NotReadDrawn name reader-old reader-new how faults-old faults-new
+OverScript path reader-old reader-new how writer-old writer-new faults-old faults-new does =
+    (NotReadDrawn path reader-old reader-new how faults-old faults-new
     × Keeps writer-old writer-new)
-    ⊎ ((maps : MapsView) × IsReadDrawn reader-old reader-new (project_of maps)
+    ⊎ ((maps : MapsView) × IsReadDrawn path reader-old reader-new (project_of maps)
     faults-old faults-new × does maps)
 
 -- the same with some text, since a file tells none
 abbrev pub OverSomeScript : List ℕ → Result ℕ Refusal → Option (List ℕ) → Option (List ℕ)
     → Option (List ℕ) → Option (List ℕ) → (MapsView → Type 0) → Type 0
-OverSomeScript name how writer-old writer-new faults-old faults-new does =
+OverSomeScript path how writer-old writer-new faults-old faults-new does =
     (text : List ℕ)
-    × ((IsStopped name text how faults-old faults-new × Keeps writer-old writer-new)
-    ⊎ ((maps : MapsView) × AreDrawnBy text (project_of maps) × Keeps faults-old faults-new
+    × ((IsStopped path text how faults-old faults-new × Keeps writer-old writer-new)
+    ⊎ ((maps : MapsView) × AreDrawnBy path text (project_of maps) × Keeps faults-old faults-new
     × does maps))

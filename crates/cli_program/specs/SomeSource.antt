@@ -4,8 +4,9 @@ use Rattle.std.specs.Prelude.{◌⊎◌, ℕ, Option, Result, List}
 use Rattle.std.specs.Io.KnownBytes.{Keeps}
 use Rattle.map_tables.specs.Projects.{MapsView}
 use Rattle.cli_refusals.specs.declared.refusal.Refusal.{Refusal}
-use Rattle.cli_program.specs.DrawnInto.{EndsUnopened, EndsUnread}
-use Rattle.cli_program.specs.ScriptMaps.{OverSomeScript}
+use Rattle.run_script.specs.Lines.{OneOf}
+use Rattle.cli_program.specs.DrawnInto.{EndsUnopened, EndsUnread, is_file}
+use Rattle.cli_program.specs.ScriptMaps.{OverScript, OverSomeScript}
 
 -- no project was opened and nothing written, or this was done with the maps of some project
 abbrev pub OverSomeMaps : Result ℕ Refusal → Option (List ℕ) → Option (List ℕ)
@@ -13,12 +14,24 @@ abbrev pub OverSomeMaps : Result ℕ Refusal → Option (List ℕ) → Option (L
 OverSomeMaps how writer-old writer-new does =
     EndsUnopened how writer-old writer-new ⊎ ((maps : MapsView) × does maps)
 
--- this was done with the maps of some project or of some script of the name; or that with some WAD;
+-- this was done with the maps of some project or of some script at the path; or that with some WAD;
 -- or a WAD or a script was not read to its end
 abbrev pub OverSome : List ℕ → Result ℕ Refusal → Option (List ℕ) → Option (List ℕ)
     → Option (List ℕ) → Option (List ℕ) → (MapsView → Type 0) → (List ℕ → Type 0) → Type 0
-OverSome name how writer-old writer-new faults-old faults-new does does-of-wad =
+OverSome path how writer-old writer-new faults-old faults-new does does-of-wad =
     (OverSomeMaps how writer-old writer-new does × Keeps faults-old faults-new)
     ⊎ (EndsUnread how writer-old writer-new × Keeps faults-old faults-new)
     ⊎ ((wad : List ℕ) × does-of-wad wad)
-    ⊎ OverSomeScript name how writer-old writer-new faults-old faults-new does
+    ⊎ OverSomeScript path how writer-old writer-new faults-old faults-new does
+
+-- the same of the file at a path, and the input stays; or `-` is the path, and it was done with the
+-- maps of the script that the input gave
+abbrev pub OverSource : List ℕ → Result ℕ Refusal → Option (List ℕ) → Option (List ℕ)
+    → Option (List ℕ) → Option (List ℕ) → Option (List ℕ) → Option (List ℕ)
+    → (MapsView → Type 0) → (List ℕ → Type 0) → Type 0
+OverSource path how reader-old reader-new writer-old writer-new faults-old faults-new does
+    does-of-wad =
+    OneOf (is_file path)
+    (OverSome path how writer-old writer-new faults-old faults-new does does-of-wad
+    × Keeps reader-old reader-new)
+    (OverScript path reader-old reader-new how writer-old writer-new faults-old faults-new does)

@@ -12,7 +12,7 @@ use Rattle.cli_print.specs.LevelPicture.{IsLevelPicturedOf}
 use Rattle.cli_print.specs.Linting.{IsLintedBy}
 use Rattle.cli_print.specs.Picturing.{IsPicturedOf}
 use Rattle.cli_print.specs.declared.laid_over.Layers.{Layers}
-use Rattle.cli_program.specs.SomeSource.{OverSome}
+use Rattle.cli_program.specs.SomeSource.{OverSource}
 use Rattle.cli_program.specs.Sources.{IsBuiltFrom}
 use Rattle.cli_refusals.specs.declared.refusal.Refusal.{Refusal}
 use Rattle.cli_words.specs.declared.asked.Request.{Request}
@@ -21,72 +21,93 @@ use Rattle.cli_words.specs.declared.asked.Request.TheVariants.{Check, Lint, Dump
 -- the findings of a map of the file at the path, or of a level, were written: of the one of the name
 -- where one is asked for
 abbrev pub IsCheckedAt : List ℕ → Option (List ℕ) → Result ℕ Refusal → Option (List ℕ)
-    → Option (List ℕ) → Option (List ℕ) → Option (List ℕ) → Type 0
-IsCheckedAt path name how writer-old writer-new faults-old faults-new =
-    OverSome path how writer-old writer-new faults-old faults-new
+    → Option (List ℕ) → Option (List ℕ) → Option (List ℕ) → Option (List ℕ) → Option (List ℕ)
+    → Type 0
+IsCheckedAt path name how reader-old reader-new writer-old writer-new faults-old faults-new =
+    OverSource path how reader-old reader-new writer-old writer-new faults-old faults-new
     (λ maps. IsCheckedIn name maps how writer-old writer-new)
     (λ wad. IsWadChecked wad name how writer-old writer-new × Keeps faults-old faults-new)
 
 -- what there is to say of the maps of the file at the path, or of its levels, was told
 abbrev pub IsLintedAt : List ℕ → Bool → ChosenWords → Option (List ℕ) → Result ℕ Refusal
-    → Option (List ℕ) → Option (List ℕ) → Option (List ℕ) → Option (List ℕ) → Type 0
-IsLintedAt path asked words name how writer-old writer-new faults-old faults-new =
-    OverSome path how writer-old writer-new faults-old faults-new
+    → Option (List ℕ) → Option (List ℕ) → Option (List ℕ) → Option (List ℕ) → Option (List ℕ)
+    → Option (List ℕ) → Type 0
+IsLintedAt path asked words name how reader-old reader-new writer-old writer-new
+    faults-old faults-new =
+    OverSource path how reader-old reader-new writer-old writer-new faults-old faults-new
     (λ maps. IsLintedBy asked words name maps how writer-old writer-new)
     (λ wad. IsWadLintedBy asked words wad name how writer-old writer-new
     × Keeps faults-old faults-new)
 
 -- a map of the file at the path, or a level, was drawn
 abbrev pub IsPicturedAt : List ℕ → Layers → Option (List ℕ) → Bool → Result ℕ Refusal
-    → Option (List ℕ) → Option (List ℕ) → Option (List ℕ) → Option (List ℕ) → Type 0
-IsPicturedAt path layers name into how writer-old writer-new faults-old faults-new =
-    OverSome path how writer-old writer-new faults-old faults-new
+    → Option (List ℕ) → Option (List ℕ) → Option (List ℕ) → Option (List ℕ) → Option (List ℕ)
+    → Option (List ℕ) → Type 0
+IsPicturedAt path layers name into how reader-old reader-new writer-old writer-new
+    faults-old faults-new =
+    OverSource path how reader-old reader-new writer-old writer-new faults-old faults-new
     (λ maps. IsPicturedOf layers name into maps how writer-old writer-new)
     (λ wad. IsLevelPicturedOf layers name into wad how writer-old writer-new
     × Keeps faults-old faults-new)
 
 -- the maps of the file at the path were dumped; or the levels of a WAD, and their notes told
 abbrev pub IsDumpedAt : List ℕ → List (List ℕ) → Bool → Result ℕ Refusal → Option (List ℕ)
-    → Option (List ℕ) → Option (List ℕ) → Option (List ℕ) → Type 0
-IsDumpedAt path names exact how writer-old writer-new faults-old faults-new =
-    OverSome path how writer-old writer-new faults-old faults-new
+    → Option (List ℕ) → Option (List ℕ) → Option (List ℕ) → Option (List ℕ) → Option (List ℕ)
+    → Type 0
+IsDumpedAt path names exact how reader-old reader-new writer-old writer-new
+    faults-old faults-new =
+    OverSource path how reader-old reader-new writer-old writer-new faults-old faults-new
     (λ maps. IsDumpedIn names maps how writer-old writer-new)
     (λ wad. IsWadDumped wad names exact how writer-old writer-new faults-old faults-new)
 
 -- the maps of the file at the path, which is no WAD, were built, and the counts told
 abbrev pub IsBuiltAt : List ℕ → Result ℕ Refusal → Option (List ℕ) → Option (List ℕ)
-    → Option (List ℕ) → Option (List ℕ) → Type 0
-IsBuiltAt path how writer-old writer-new faults-old faults-new =
-    OverSome path how writer-old writer-new faults-old faults-new
+    → Option (List ℕ) → Option (List ℕ) → Option (List ℕ) → Option (List ℕ) → Type 0
+IsBuiltAt path how reader-old reader-new writer-old writer-new faults-old faults-new =
+    OverSource path how reader-old reader-new writer-old writer-new faults-old faults-new
     (λ maps. IsBuiltFrom maps how writer-old writer-new) (λ wad. ⊥)
 
 -- one of these was done, as the request asks for
 abbrev pub IsDoneWith : Request → Result ℕ Refusal → Option (List ℕ) → Option (List ℕ)
-    → Option (List ℕ) → Option (List ℕ) → Type 0
-IsDoneWith (Check file map) how writer-old writer-new faults-old faults-new =
-    IsCheckedAt (string_bytes file) (option_map string_bytes map) how writer-old writer-new
-    faults-old faults-new
-IsDoneWith (Lint file map-name iwad only except) how writer-old writer-new
+    → Option (List ℕ) → Option (List ℕ) → Option (List ℕ) → Option (List ℕ) → Type 0
+IsDoneWith (Check file map) how reader-old reader-new writer-old writer-new
+    faults-old faults-new =
+    IsCheckedAt (string_bytes file) (option_map string_bytes map) how reader-old reader-new
+    writer-old writer-new faults-old faults-new
+IsDoneWith (Lint file map-name iwad only except) how reader-old reader-new writer-old writer-new
     faults-old faults-new =
     IsLintedAt (string_bytes file) (is_some iwad)
     (record {
       only = map string_bytes only.items;
       except = map string_bytes except.items;
     })
-    (option_map string_bytes map-name) how writer-old writer-new faults-old faults-new
-IsDoneWith (Dump file names exact) how writer-old writer-new faults-old faults-new =
-    IsDumpedAt (string_bytes file) (map string_bytes names.items) exact how writer-old writer-new
+    (option_map string_bytes map-name) how reader-old reader-new writer-old writer-new
     faults-old faults-new
-IsDoneWith (Picture file map out numbers nodes lint heights grid crop) how writer-old writer-new
+IsDoneWith (Dump file names exact) how reader-old reader-new writer-old writer-new
     faults-old faults-new =
+    IsDumpedAt (string_bytes file) (map string_bytes names.items) exact how reader-old reader-new
+    writer-old writer-new faults-old faults-new
+IsDoneWith (Picture file map out numbers nodes lint heights grid crop) how reader-old reader-new
+    writer-old writer-new faults-old faults-new =
     IsPicturedAt (string_bytes file) (layers_of numbers heights grid crop nodes lint)
-    (option_map string_bytes map) (is_some out) how writer-old writer-new faults-old faults-new
-IsDoneWith (Build file out) how writer-old writer-new faults-old faults-new =
-    IsBuiltAt (string_bytes file) how writer-old writer-new faults-old faults-new
-IsDoneWith request how writer-old writer-new faults-old faults-new = ⊥
+    (option_map string_bytes map) (is_some out) how reader-old reader-new writer-old writer-new
+    faults-old faults-new
+IsDoneWith (Build file out) how reader-old reader-new writer-old writer-new
+    faults-old faults-new =
+    IsBuiltAt (string_bytes file) how reader-old reader-new writer-old writer-new
+    faults-old faults-new
+IsDoneWith request how reader-old reader-new writer-old writer-new faults-old faults-new = ⊥
 
 -- the same, whatever was told
-abbrev pub IsDoneWithSome : Request → Result ℕ Refusal → Option (List ℕ) → Option (List ℕ) → Type 0
-IsDoneWithSome request how writer-old writer-new =
+abbrev pub IsDoneWithSome : Request → Result ℕ Refusal → Option (List ℕ) → Option (List ℕ)
+    → Option (List ℕ) → Option (List ℕ) → Type 0
+IsDoneWithSome request how reader-old reader-new writer-old writer-new =
     (faults-old faults-new : Option (List ℕ))
-    × IsDoneWith request how writer-old writer-new faults-old faults-new
+    × IsDoneWith request how reader-old reader-new writer-old writer-new faults-old faults-new
+
+-- the same, whatever the input gave
+abbrev pub IsDoneTelling : Request → Result ℕ Refusal → Option (List ℕ) → Option (List ℕ)
+    → Option (List ℕ) → Option (List ℕ) → Type 0
+IsDoneTelling request how writer-old writer-new faults-old faults-new =
+    (reader-old reader-new : Option (List ℕ))
+    × IsDoneWith request how reader-old reader-new writer-old writer-new faults-old faults-new

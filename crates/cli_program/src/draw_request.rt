@@ -1,17 +1,19 @@
 //! The request `draw`: the lines of a script, drawn onto a disk's project, or tried over maps in memory.
-ghost use Rattle.std.specs.Prelude.{◌≡◌, ◌≤◌, ◌<◌, ◌⊎◌, ℕ, List, None, Ok, Some, length, slice_get, IfErr, IfOk, IfSome, MatchOption};
+ghost use Rattle.std.specs.Prelude.{◌≡◌, ◌≤◌, ◌⊎◌, ℕ, List, None, Ok, Some, length, slice_get, IfErr, IfOk, IfSome, MatchOption};
 ghost use Rattle.std.specs.Io.KnownBytes.{Keeps};
-ghost use Rattle.cli_program.specs.Drawing.{DrawsWhole, IsDrawnOnto, IsHandedOn, IsStopTold, IsTriedOn, IsTriedOver, ShowsStop, TellsRefused, TellsStopFrom, stop_status};
+ghost use Rattle.cli_program.specs.Drawing.{DrawsWhole, IsDrawnOnto, IsHandedOn, IsStopTold, IsTriedOn, IsTriedOver, TellsRefused, TellsStopFrom, stop_status};
+ghost use Rattle.cli_program.specs.Including.{ShowsTold};
 ghost use Rattle.map_tables.specs.Projects.{body_len, project_of};
 ghost use Rattle.run_script.specs.Canvases.{Drafted, NothingWaits, draft_over};
+ghost use Rattle.run_script.specs.Refused.{IsStopWithin, blocks_text};
 ghost use Rattle.run_script.specs.declared.error.ScriptError.TheVariants.{OutOfMemory};
 ghost use Rattle.cli_program.specs.DrawnOver.{IsDrawnOver, IsTriedOverDisk};
 ghost use Rattle.cli_program.specs.ScriptMaps.{IsStoppedFrom};
 
 use crate::over_disk::{HandedBack, not_opened, open_project};
 use cli_refusals::{DONE, Refusal};
-use lump_text::{shown_name, write_shown_lines};
-use map_script::{Names, ScriptLines, script_lines};
+use lump_text::write_shown_lines;
+use map_script::{Names, ScriptFiles, ScriptLines};
 use map_tables::Maps;
 use run_edit::EditorError;
 use run_script::{Canvas, Draft, ProjectCanvas, ScriptError, Stop, write_refused};
@@ -23,36 +25,36 @@ use store_project::Project;
 // The status if a line was refused.
 const STOPPED: u8 = 3;
 
-/// A script that was read.
+/// The lines of a script, and how they are drawn.
 #[derive(Clone, Copy)]
 pub struct Script<'a> {
-    /// Its name in the report of a refused line.
-    pub name: &'a str,
-    pub text: &'a [u8],
+    pub lines: &'a ScriptLines,
+    /// The file of each line, as its path is shown.
+    pub files: &'a ScriptFiles,
     /// Whether the answer to each command is written.
     pub is_verbose: bool,
 }
 
-// What tells which line was refused, and why, with the script's name as it is shown.
+// What tells which line was refused, and why.
 fn stop_told(
     alloc: Global,
     maps: &Maps,
     names: &Names,
     lines: &ScriptLines,
-    script: &str,
-    stop: Stop,
+    files: &ScriptFiles,
+    stop: &Stop,
 ) -> Result<Vec<u8>, ScriptError>
-    requires { stop.place < length lines.now }
-    ensures told { IfOk result (λ told. (line : ℕ × List ℕ)
-        → slice_get lines.now stop.place ≡ Some line
-        → IsStopTold script.now line stop.code told.items) }
+    requires within { IsStopWithin (length lines.now) stop.now }
+    requires files { length files.now ≡ length lines.now }
+    ensures told { IfOk result (λ told. (file : List ℕ) (line : ℕ × List ℕ)
+        → slice_get files.now stop.now.place ≡ Some file
+        → slice_get lines.now stop.now.place ≡ Some line
+        → IsStopTold file line stop.now.code
+        (blocks_text lines.now files.now stop.now.«open».items) told.items) }
     ensures memory { IfErr result (λ e. e ≡ OutOfMemory) }
 {
-    let Ok(name) = shown_name(alloc, script.as_bytes()) else {
-        return Err(ScriptError::OutOfMemory);
-    };
     let mut told = Vec::new(alloc);
-    match write_refused(alloc, maps, names, lines, name.as_str(), stop, &mut told) {
+    match write_refused(alloc, maps, names, lines, files, stop, &mut told) {
         Ok(()) => Ok(told),
         Err(_) => Err(ScriptError::OutOfMemory),
     }
@@ -64,16 +66,20 @@ fn show_stop<F: Write>(
     maps: &Maps,
     names: &Names,
     lines: &ScriptLines,
-    script: &str,
-    stop: Stop,
+    files: &ScriptFiles,
+    stop: &Stop,
     faults: &mut F,
 ) -> Result<(), ScriptError>
-    requires { stop.place < length lines.now }
-    ensures { (line : ℕ × List ℕ) → slice_get lines.now stop.place ≡ Some line
-        → ShowsStop result script.now line stop.code
+    requires within { IsStopWithin (length lines.now) stop.now }
+    requires files { length files.now ≡ length lines.now }
+    ensures { (file : List ℕ) (line : ℕ × List ℕ)
+        → slice_get files.now stop.now.place ≡ Some file
+        → slice_get lines.now stop.now.place ≡ Some line
+        → ShowsTold result (IsStopTold file line stop.now.code
+        (blocks_text lines.now files.now stop.now.«open».items))
         (F.contents faults.old) (F.contents faults.new) }
 {
-    let told = match stop_told(alloc, maps, names, lines, script, stop) {
+    let told = match stop_told(alloc, maps, names, lines, files, stop) {
         Ok(told) => told,
         Err(error) => return Err(error),
     };
@@ -88,29 +94,30 @@ fn say_stop<F: Write>(
     alloc: Global,
     maps: &Maps,
     names: &Names,
-    script: &str,
     lines: &ScriptLines,
-    drawn: Result<Option<Stop>, ScriptError>,
+    files: &ScriptFiles,
+    drawn: &Result<Option<Stop>, ScriptError>,
     faults: &mut F,
 ) -> Result<(), ScriptError>
-    requires { IfOk drawn (λ stop. IfSome stop (λ s. s.place < length lines.now)) }
-    ensures told { TellsRefused result script.now lines.now drawn
+    requires within { IfOk drawn.now (λ stop. IfSome stop (IsStopWithin (length lines.now))) }
+    requires files { length files.now ≡ length lines.now }
+    ensures told { TellsRefused result lines.now files.now drawn.now
         (F.contents faults.old) (F.contents faults.new) }
-    ensures quiet { drawn ≡ Ok None → Keeps (F.contents faults.old) (F.contents faults.new) }
+    ensures quiet { drawn.now ≡ Ok None → Keeps (F.contents faults.old) (F.contents faults.new) }
 {
     let stopped = match drawn {
         Ok(stopped) => stopped,
         Err(_) => return Ok(()),
     };
     match stopped {
-        Some(stop) => show_stop(alloc, maps, names, lines, script, stop, faults),
+        Some(stop) => show_stop(alloc, maps, names, lines, files, stop, faults),
         None => Ok(()),
     }
 }
 
 // The status if all lines were drawn, or if one was refused.
-fn status_of(stop: Option<Stop>) -> u8
-    ensures status { result ≡ stop_status stop }
+fn status_of(stop: &Option<Stop>) -> u8
+    ensures status { result ≡ stop_status stop.now }
     ensures small { result ≤ 3 }
 {
     match stop {
@@ -121,11 +128,11 @@ fn status_of(stop: Option<Stop>) -> u8
 
 // Flushes the writer, and returns the status.
 fn handed_on<W: Write>(
-    drawn: Result<Option<Stop>, ScriptError>,
+    drawn: &Result<Option<Stop>, ScriptError>,
     writer: &mut W,
 ) -> Result<u8, Refusal>
     ensures small { IfOk result (λ s. s ≤ 3) }
-    ensures handed { IsHandedOn drawn result (W.contents writer.old) (W.contents writer.new) }
+    ensures handed { IsHandedOn drawn.now result (W.contents writer.old) (W.contents writer.new) }
 {
     match drawn {
         Ok(stop) => match writer.flush() {
@@ -145,26 +152,24 @@ fn draw_onto<C: Canvas, W: Write, F: Write>(
     writer: &mut W,
     faults: &mut F,
 ) -> Result<u8, Refusal>
-    requires { NothingWaits C.Canvas canvas.old }
+    requires settled { NothingWaits C.Canvas canvas.old }
+    requires files { length script.files.now ≡ length script.lines.now }
     ensures small { IfOk result (λ s. s ≤ 3) }
-    ensures drawn { IsDrawnOnto C.Canvas script.entry.is_verbose script.entry.text.now result
+    ensures drawn { IsDrawnOnto C.Canvas script.entry.is_verbose script.entry.lines.now result
         canvas.old canvas.new (W.contents writer.old) (W.contents writer.new) }
     ensures quiet { result ≡ Ok 0 → Keeps (F.contents faults.old) (F.contents faults.new) }
     ensures told { IfOk result (λ s. (s ≡ 0) ⊎ ((s ≡ 3)
-        × TellsStopFrom C.Canvas script.entry.is_verbose script.entry.name.now
-        script.entry.text.now canvas.old (W.contents writer.old)
+        × TellsStopFrom C.Canvas script.entry.is_verbose script.entry.lines.now
+        script.entry.files.now canvas.old (W.contents writer.old)
         (F.contents faults.old) (F.contents faults.new))) }
 {
-    let lines = match script_lines(alloc, script.text) {
-        Ok(lines) => lines,
-        Err(_) => return Err(Refusal::Lines(EditorError::OutOfMemory)),
-    };
     let mut names = Names::new(alloc);
-    let drawn = run_script::draw(alloc, canvas, &mut names, &lines, script.is_verbose, writer);
-    let how = handed_on(drawn, writer);
+    let (lines, files) = (script.lines, script.files);
+    let drawn = run_script::draw(alloc, canvas, &mut names, lines, script.is_verbose, writer);
+    let how = handed_on(&drawn, writer);
     let maps = canvas.maps();
     // The status tells of the stop even if this can't be written.
-    let _ = say_stop(alloc, maps, &names, script.name, &lines, drawn, faults);
+    let _ = say_stop(alloc, maps, &names, lines, files, &drawn, faults);
     how
 }
 
@@ -177,17 +182,18 @@ fn rehearse<D: Disk, F: Write>(
     script: Script<'_>,
     faults: &mut F,
 ) -> Option<Result<u8, Refusal>>
+    requires { length script.files.now ≡ length script.lines.now }
     ensures tried { MatchOption result
-        (((tried : Drafted) × DrawsWhole script.entry.text.now (draft_over project.now) tried)
+        (((tried : Drafted) × DrawsWhole script.entry.lines.now (draft_over project.now) tried)
         × Keeps (F.contents faults.old) (F.contents faults.new))
-        (λ how. IsStoppedFrom (draft_over project.now) script.entry.name.now
-        script.entry.text.now how (F.contents faults.old) (F.contents faults.new)) }
+        (λ how. IsStoppedFrom (draft_over project.now) script.entry.lines.now
+        script.entry.files.now how (F.contents faults.old) (F.contents faults.new)) }
     ensures small { IfSome result (λ how. IfOk how (λ s. s ≤ 3)) }
 {
     let Ok(mut draft) = Draft::over(alloc, project.maps(), project.cap()) else {
         return Some(Err(Refusal::Lines(EditorError::OutOfMemory)));
     };
-    draw_whole(alloc, script.name, script.text, &mut draft, faults)
+    draw_whole(alloc, script.lines, script.files, &mut draft, faults)
 }
 
 /// Draws a script onto the project of a disk, if all its lines can be drawn onto the project's maps: they are tried in
@@ -201,9 +207,10 @@ pub fn draw<D: Disk, W: Write, F: Write>(
     writer: &mut W,
     faults: &mut F,
 ) -> HandedBack<D>
+    requires { length script.files.now ≡ length script.lines.now }
     ensures small { IfOk result.how (λ s. s ≤ 3) }
     ensures drawn { IsDrawnOver D.Disk disk result.disk script.entry.is_verbose
-        script.entry.text.now result.how (W.contents writer.old) (W.contents writer.new) }
+        script.entry.lines.now result.how (W.contents writer.old) (W.contents writer.new) }
     ensures quiet { result.how ≡ Ok 0 → Keeps (F.contents faults.old) (F.contents faults.new) }
 {
     let project = match open_project(alloc, disk) {
@@ -237,8 +244,9 @@ pub fn try_script<W: Write, F: Write>(
     writer: &mut W,
     faults: &mut F,
 ) -> Result<u8, Refusal>
+    requires { length script.files.now ≡ length script.lines.now }
     ensures small { IfOk result (λ s. s ≤ 3) }
-    ensures tried { IsTriedOn script.entry.is_verbose script.entry.text.now result
+    ensures tried { IsTriedOn script.entry.is_verbose script.entry.lines.now result
         (W.contents writer.old) (W.contents writer.new) }
     ensures quiet { result ≡ Ok 0 → Keeps (F.contents faults.old) (F.contents faults.new) }
 {
@@ -256,9 +264,10 @@ pub fn try_over<D: Disk, W: Write, F: Write>(
     writer: &mut W,
     faults: &mut F,
 ) -> HandedBack<D>
+    requires { length script.files.now ≡ length script.lines.now }
     ensures small { IfOk result.how (λ s. s ≤ 3) }
     ensures tried { IsTriedOverDisk D.Disk disk result.disk script.entry.is_verbose
-        script.entry.text.now result.how (W.contents writer.old) (W.contents writer.new) }
+        script.entry.lines.now result.how (W.contents writer.old) (W.contents writer.new) }
     ensures quiet { result.how ≡ Ok 0 → Keeps (F.contents faults.old) (F.contents faults.new) }
 {
     let project = match open_project(alloc, disk) {
@@ -281,10 +290,11 @@ fn try_copy<W: Write, F: Write>(
     writer: &mut W,
     faults: &mut F,
 ) -> Result<u8, Refusal>
-    requires { body_len (project_of maps.now) ≤ cap }
+    requires fits { body_len (project_of maps.now) ≤ cap }
+    requires files { length script.files.now ≡ length script.lines.now }
     ensures small { IfOk result (λ s. s ≤ 3) }
     ensures tried { IsTriedOver (record { maps = project_of maps.now; cap = cap })
-        script.entry.is_verbose script.entry.text.now result
+        script.entry.is_verbose script.entry.lines.now result
         (W.contents writer.old) (W.contents writer.new) }
     ensures quiet { result ≡ Ok 0 → Keeps (F.contents faults.old) (F.contents faults.new) }
 {
@@ -294,25 +304,26 @@ fn try_copy<W: Write, F: Write>(
     }
 }
 
-/// Draws a script onto maps in memory as a whole, or returns how a request ends if not all lines were drawn. A refused
-/// one is reported on `faults`. Answers to queries are not written.
+/// Draws the lines of a script, which stand in these files, onto maps in memory as a whole, or returns how a request
+/// ends if not all were drawn. A refused one is reported on `faults`. Answers to queries are not written.
 pub fn draw_whole<F: Write>(
     alloc: Global,
-    name: &str,
-    text: &[u8],
+    lines: &ScriptLines,
+    files: &ScriptFiles,
     draft: &mut Draft,
     faults: &mut F,
 ) -> Option<Result<u8, Refusal>>
+    requires { length files.now ≡ length lines.now }
     ensures drawn { MatchOption result
-        (DrawsWhole text.now draft.old draft.new
+        (DrawsWhole lines.now draft.old draft.new
         × Keeps (F.contents faults.old) (F.contents faults.new))
-        (λ how. IsStoppedFrom draft.old name.now text.now how
+        (λ how. IsStoppedFrom draft.old lines.now files.now how
         (F.contents faults.old) (F.contents faults.new)) }
     ensures small { IfSome result (λ how. IfOk how (λ s. s ≤ 3)) }
 {
     let script = Script {
-        name,
-        text,
+        lines,
+        files,
         is_verbose: false,
     };
     match draw_onto(alloc, draft, script, &mut io::sink(), faults) {

@@ -1,6 +1,7 @@
 //! The names that a file has, told where none of them was asked for.
 use crate::over_disk::maps_on;
 use crate::over_file::open_read;
+use crate::script_file::is_file;
 use crate::script_maps::draw_maps;
 use cli_files::{Content, Hold, NotedFile, ReadFile, content_in};
 use cli_print::{TURNS, read_wad};
@@ -20,13 +21,18 @@ use wad_levels::level_names;
 // The most names that are told.
 const MOST: usize = 32;
 
+// A path, if it is that of a file: standard input has been read.
+fn named_file(path: &str) -> Option<&str> {
+    if is_file(path) { Some(path) } else { None }
+}
+
 // The file whose maps or levels a request names.
 fn file_of(request: &Request) -> Option<&str> {
     match request {
         Request::Check { file, .. }
         | Request::Lint { file, .. }
         | Request::Dump { file, .. }
-        | Request::Picture { file, .. } => Some(file.as_str()),
+        | Request::Picture { file, .. } => named_file(file.as_str()),
         Request::Inspect { wad, .. } | Request::Rebuild { wad, .. } => Some(wad.as_str()),
         _ => None,
     }
@@ -51,15 +57,19 @@ fn names_in_wad<R: io::Read>(alloc: Global, reader: &mut R) -> Option<Vec<Name8>
     level_names(alloc, &wad).ok()
 }
 
-// The names of the maps that a script draws.
+// The names of the maps that the script at a path draws.
 #[inline(never)]
-fn names_in_script<R: io::Read>(alloc: Global, reader: &mut R) -> Option<Vec<Name8>> {
-    let mut draft = Draft::new(alloc);
-    let mut faults = Vec::new(alloc);
+fn names_in_script<E, R>(rt: &E, path: &str, reader: &mut R) -> Option<Vec<Name8>>
+where
+    E: AllocGlobal + Files,
+    R: io::Read,
+{
+    let mut draft = Draft::new(rt.alloc());
+    let mut faults = Vec::new(rt.alloc());
     let mut why = None;
-    match draw_maps(alloc, "", reader, &mut draft, &mut faults, &mut why) {
+    match draw_maps(rt, path, reader, &mut draft, &mut faults, &mut why) {
         Some(_) => None,
-        None => names_of(alloc, draft.maps()),
+        None => names_of(rt.alloc(), draft.maps()),
     }
 }
 
@@ -92,7 +102,7 @@ where
     let mut file = open_read(rt, path, &mut why).ok()?;
     match content_in(&file) {
         Ok(Content::Wad) => names_in_wad(rt.alloc(), &mut file.file),
-        Ok(Content::Text | Content::Picture) => names_in_script(rt.alloc(), &mut file.file),
+        Ok(Content::Text | Content::Picture) => names_in_script(rt, path, &mut file.file),
         _ => names_in_project(rt, file),
     }
 }

@@ -1,5 +1,5 @@
 //! The requests that make a project or change one, and `dump --salvage`, over the file at a path.
-ghost use Rattle.std.specs.Prelude.{◌≡◌, ◌≤◌, ◌⊎◌, false, Ok, IfErr, IfOk, is_some};
+ghost use Rattle.std.specs.Prelude.{◌≡◌, ◌≤◌, ◌⊎◌, false, Ok, IfErr, IfOk};
 ghost use Rattle.std.specs.Io.KnownBytes.{Keeps};
 ghost use Rattle.cli_program.specs.DrawnInto.{IsDrawnInto, IsTriedOntoSome};
 ghost use Rattle.cli_program.specs.Salvaging.{IsSalvagedInto};
@@ -9,7 +9,7 @@ ghost use Rattle.cli_refusals.specs.declared.refusal.Refusal.{Refusal};
 use crate::draw_request::{Script, draw, try_over};
 use crate::over_disk::{create, edit};
 use crate::salvage_request::salvage_lines;
-use crate::script_file::{read_file, read_script_of};
+use crate::script_file::read_at;
 use cli_files::{
     Access, Cause, Content, GaplessFile, Hold, NotedFile, ReadFile, content_in, open_held,
     open_to_read,
@@ -162,12 +162,12 @@ where
     ended_over(&file, how, why)
 }
 
-/// Draws a script onto the project in the file at the path. The script is the file at `script`, or the input, whose
-/// name in the report of a refused line is `-`; or notes why the script can't be opened or read.
+/// Draws a script onto the project in the file at the path. The script is the file at `script`, or standard input,
+/// which is `-`; or notes why the script can't be opened or read.
 pub fn draw_file<E, R, W, F>(
     rt: &E,
     path: &str,
-    script: Option<&str>,
+    script: &str,
     is_verbose: bool,
     reader: &mut R,
     writer: &mut W,
@@ -182,13 +182,13 @@ where
     F: Write,
     ensures small { IfOk result (λ s. s ≤ 3) }
     ensures drawn { IsDrawnInto ⟦<FileDisk<&'static NotedFile<E::File>> as Disk>⟧
-        (is_some script.entry) is_verbose result (R.remaining reader.old) (R.remaining reader.new)
+        script.now is_verbose result (R.remaining reader.old) (R.remaining reader.new)
         (W.contents writer.old) (W.contents writer.new) }
     ensures quiet { result ≡ Ok 0 → Keeps (F.contents faults.old) (F.contents faults.new) }
 {
-    let text = match read_script_of(rt, script, reader, &mut why.beside) {
-        Ok(text) => text,
-        Err(refusal) => return Err(refusal),
+    let whole = match read_at(rt, script, reader, faults, &mut why.beside) {
+        Ok(whole) => whole,
+        Err(how) => return how,
     };
     let file = match file_at(rt, path, why) {
         Ok(file) => file,
@@ -196,21 +196,22 @@ where
     };
     let disk = FileDisk::new(&file, true);
     let script = Script {
-        name: script.unwrap_or("-"),
-        text: &text,
+        lines: &whole.lines,
+        files: &whole.files,
         is_verbose,
     };
     let how = draw(rt.alloc(), disk, script, writer, faults).how;
     ended_over(&file, how, why)
 }
 
-/// Tries the script in the file at `script` over the maps of the project in the file at the path, which stays as it is;
-/// or notes why a file can't be opened or read.
-pub fn try_onto<E, W, F>(
+/// Tries the script at `script`, a file or `-`, over the maps of the project in the file at the path, which stays as it
+/// is; or notes why a file can't be opened or read.
+pub fn try_onto<E, R, W, F>(
     rt: &E,
     path: &str,
     script: &str,
     is_verbose: bool,
+    reader: &mut R,
     writer: &mut W,
     faults: &mut F,
     why: &mut Causes,
@@ -218,16 +219,18 @@ pub fn try_onto<E, W, F>(
 where
     E: AllocGlobal + Files,
     E::File: FileExt + Hold,
+    R: Read,
     W: Write,
     F: Write,
     ensures small { IfOk result (λ s. s ≤ 3) }
-    ensures tried { IsTriedOntoSome is_verbose result
+    ensures tried { IsTriedOntoSome script.now is_verbose result
+        (R.remaining reader.old) (R.remaining reader.new)
         (W.contents writer.old) (W.contents writer.new) }
     ensures quiet { result ≡ Ok 0 → Keeps (F.contents faults.old) (F.contents faults.new) }
 {
-    let text = match read_file(rt, script, &mut why.beside) {
-        Ok(text) => text,
-        Err(refusal) => return Err(refusal),
+    let whole = match read_at(rt, script, reader, faults, &mut why.beside) {
+        Ok(whole) => whole,
+        Err(how) => return how,
     };
     let file = match open_read(rt, path, why) {
         Ok(file) => NotedFile::new(file),
@@ -235,8 +238,8 @@ where
     };
     let disk = FileDisk::new(&file, false);
     let script = Script {
-        name: script,
-        text: &text,
+        lines: &whole.lines,
+        files: &whole.files,
         is_verbose,
     };
     let how = try_over(rt.alloc(), disk, script, writer, faults).how;

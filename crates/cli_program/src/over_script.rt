@@ -16,14 +16,13 @@ use cli_files::{Cause, Hold};
 use cli_print::{Choice, Wanted, draw, tell_beside, tell_findings};
 use cli_refusals::{Causes, Refusal};
 use run_script::{Canvas, Draft};
-use std::alloc::Global;
 use std::fs::Files;
 use std::io::{Read, Write};
 
-/// Writes what is wrong or unfinished in the map with the name that a script draws, or in the current one.
+/// Writes what is wrong or unfinished in the map with the name that the script at a path draws, or in the current one.
 #[inline(never)]
-pub fn check_script<R: Read, W: Write, F: Write>(
-    alloc: Global,
+pub fn check_script<E: AllocGlobal + Files, R: Read, W: Write, F: Write>(
+    rt: &E,
     script: &str,
     reader: &mut R,
     name: Option<&str>,
@@ -38,10 +37,10 @@ pub fn check_script<R: Read, W: Write, F: Write>(
         (λ maps. IsCheckedIn (option_map (λ s. s.now) name.entry) maps result
         (W.contents writer.old) (W.contents writer.new)) }
 {
-    let mut draft = Draft::new(alloc);
-    match draw_maps(alloc, script, reader, &mut draft, faults, why) {
+    let mut draft = Draft::new(rt.alloc());
+    match draw_maps(rt, script, reader, &mut draft, faults, why) {
         Some(how) => how,
-        None => tell_findings(alloc, draft.maps(), name, writer),
+        None => tell_findings(rt.alloc(), draft.maps(), name, writer),
     }
 }
 
@@ -67,14 +66,7 @@ pub fn lint_script<E: AllocGlobal + Files, R: Read, W: Write, F: Write>(
         (W.contents writer.old) (W.contents writer.new)) }
 {
     let mut draft = Draft::new(rt.alloc());
-    match draw_maps(
-        rt.alloc(),
-        script,
-        reader,
-        &mut draft,
-        faults,
-        &mut why.file,
-    ) {
+    match draw_maps(rt, script, reader, &mut draft, faults, &mut why.file) {
         Some(how) => how,
         None => {
             tell_beside(
@@ -93,8 +85,8 @@ pub fn lint_script<E: AllocGlobal + Files, R: Read, W: Write, F: Write>(
 /// Writes the lines that draw the maps of a script again, or, if there are names, those of each map with one of the
 /// names.
 #[inline(never)]
-pub fn dump_script<R: Read, W: Write, F: Write>(
-    alloc: Global,
+pub fn dump_script<E: AllocGlobal + Files, R: Read, W: Write, F: Write>(
+    rt: &E,
     script: &str,
     reader: &mut R,
     names: &[String],
@@ -109,10 +101,10 @@ pub fn dump_script<R: Read, W: Write, F: Write>(
         (λ maps. IsDumpedIn (map string_bytes names.now) maps result
         (W.contents writer.old) (W.contents writer.new)) }
 {
-    let mut draft = Draft::new(alloc);
-    match draw_maps(alloc, script, reader, &mut draft, faults, why) {
+    let mut draft = Draft::new(rt.alloc());
+    match draw_maps(rt, script, reader, &mut draft, faults, why) {
         Some(how) => how,
-        None => tell_lines_of(alloc, draft.maps(), names, writer),
+        None => tell_lines_of(rt.alloc(), draft.maps(), names, writer),
     }
 }
 
@@ -137,14 +129,7 @@ where
         (is_some wanted.entry.out) maps result (W.contents writer.old) (W.contents writer.new)) }
 {
     let mut draft = Draft::new(rt.alloc());
-    match draw_maps(
-        rt.alloc(),
-        script,
-        reader,
-        &mut draft,
-        faults,
-        &mut why.file,
-    ) {
+    match draw_maps(rt, script, reader, &mut draft, faults, &mut why.file) {
         Some(how) => how,
         None => draw(rt.alloc(), rt, draft.maps(), wanted, writer, &mut why.out),
     }
@@ -171,14 +156,7 @@ where
         (λ maps. IsBuiltFrom maps result (W.contents writer.old) (W.contents writer.new)) }
 {
     let mut draft = Draft::new(rt.alloc());
-    match draw_maps(
-        rt.alloc(),
-        script,
-        reader,
-        &mut draft,
-        faults,
-        &mut why.file,
-    ) {
+    match draw_maps(rt, script, reader, &mut draft, faults, &mut why.file) {
         Some(how) => how,
         None => build_at(rt.alloc(), rt, draft.maps(), out, writer, &mut why.out),
     }

@@ -1,8 +1,17 @@
-//! The requests that only read a project, in the file at a path, which may also be a WAD or a script: `build` takes no
-//! WAD.
-ghost use Rattle.std.specs.Prelude.{◌≡◌, ◌≤◌, IfOk, is_some, map, option_map, string_bytes};
+//! The requests that only read a project, over the file at a path, which may also be a WAD or a script: `build` takes
+//! no WAD.
+ghost use Rattle.std.specs.Prelude.{◌≤◌, IfOk, is_some, map, option_map, string_bytes};
+ghost use Rattle.std.specs.Io.KnownBytes.{Keeps};
+ghost use Rattle.cli_dump.specs.Dumping.{IsDumpedIn};
+ghost use Rattle.cli_dump.specs.LevelDumps.{IsWadDumped};
+ghost use Rattle.cli_print.specs.Checking.{IsCheckedIn};
 ghost use Rattle.cli_print.specs.Choosing.{choice_view};
-ghost use Rattle.cli_program.specs.SourceDeeds.{IsBuiltAt, IsCheckedAt, IsDumpedAt, IsLintedAt, IsPicturedAt};
+ghost use Rattle.cli_print.specs.LevelLines.{IsWadChecked, IsWadLintedBy};
+ghost use Rattle.cli_print.specs.LevelPicture.{IsLevelPicturedOf};
+ghost use Rattle.cli_print.specs.Linting.{IsLintedBy};
+ghost use Rattle.cli_print.specs.Picturing.{IsPicturedOf};
+ghost use Rattle.cli_program.specs.SomeSource.{OverSome};
+ghost use Rattle.cli_program.specs.Sources.{IsBuiltFrom};
 
 use crate::build_request::build;
 use crate::dump_request::{dump, dump_wad};
@@ -36,9 +45,13 @@ where
     W: Write,
     F: Write,
     ensures small { IfOk result (λ s. s ≤ 3) }
-    ensures found { IsCheckedAt path.now (option_map (λ s. s.now) name.entry) result
+    ensures found { OverSome path.now result (W.contents writer.old) (W.contents writer.new)
+        (F.contents faults.old) (F.contents faults.new)
+        (λ maps. IsCheckedIn (option_map (λ s. s.now) name.entry) maps result
+        (W.contents writer.old) (W.contents writer.new))
+        (λ wad. IsWadChecked wad (option_map (λ s. s.now) name.entry) result
         (W.contents writer.old) (W.contents writer.new)
-        (F.contents faults.old) (F.contents faults.new) }
+        × Keeps (F.contents faults.old) (F.contents faults.new)) }
 {
     let mut file = open_read(rt, path, why)?;
     match content_in(&file) {
@@ -50,7 +63,7 @@ where
             &mut why.file,
         ),
         Ok(Content::Text | Content::Picture) => return check_script(
-            rt.alloc(),
+            rt,
             path,
             &mut file.file,
             name,
@@ -84,10 +97,15 @@ where
     W: Write,
     F: Write,
     ensures small { IfOk result (λ s. s ≤ 3) }
-    ensures linted { IsLintedAt path.now (is_some iwad.entry) (choice_view choice.entry)
+    ensures linted { OverSome path.now result (W.contents writer.old) (W.contents writer.new)
+        (F.contents faults.old) (F.contents faults.new)
+        (λ maps. IsLintedBy (is_some iwad.entry) (choice_view choice.entry)
+        (option_map (λ s. s.now) name.entry) maps result
+        (W.contents writer.old) (W.contents writer.new))
+        (λ wad. IsWadLintedBy (is_some iwad.entry) (choice_view choice.entry) wad
         (option_map (λ s. s.now) name.entry) result
         (W.contents writer.old) (W.contents writer.new)
-        (F.contents faults.old) (F.contents faults.new) }
+        × Keeps (F.contents faults.old) (F.contents faults.new)) }
 {
     let mut file = open_read(rt, path, why)?;
     match content_in(&file) {
@@ -130,9 +148,13 @@ where
     W: Write,
     F: Write,
     ensures small { IfOk result (λ s. s ≤ 3) }
-    ensures dumped { IsDumpedAt path.now (map string_bytes names.now) is_exact result
+    ensures dumped { OverSome path.now result (W.contents writer.old) (W.contents writer.new)
+        (F.contents faults.old) (F.contents faults.new)
+        (λ maps. IsDumpedIn (map string_bytes names.now) maps result
+        (W.contents writer.old) (W.contents writer.new))
+        (λ wad. IsWadDumped wad (map string_bytes names.now) is_exact result
         (W.contents writer.old) (W.contents writer.new)
-        (F.contents faults.old) (F.contents faults.new) }
+        (F.contents faults.old) (F.contents faults.new)) }
 {
     let mut file = open_read(rt, path, why)?;
     match content_in(&file) {
@@ -146,7 +168,7 @@ where
             &mut why.file,
         ),
         Ok(Content::Text | Content::Picture) => return dump_script(
-            rt.alloc(),
+            rt,
             path,
             &mut file.file,
             names,
@@ -177,10 +199,13 @@ where
     W: Write,
     F: Write,
     ensures small { IfOk result (λ s. s ≤ 3) }
-    ensures pictured { IsPicturedAt path.now wanted.entry.layers
-        (option_map (λ s. s.now) wanted.entry.map) (is_some wanted.entry.out) result
-        (W.contents writer.old) (W.contents writer.new)
-        (F.contents faults.old) (F.contents faults.new) }
+    ensures pictured { OverSome path.now result (W.contents writer.old) (W.contents writer.new)
+        (F.contents faults.old) (F.contents faults.new)
+        (λ maps. IsPicturedOf wanted.entry.layers (option_map (λ s. s.now) wanted.entry.map)
+        (is_some wanted.entry.out) maps result (W.contents writer.old) (W.contents writer.new))
+        (λ wad. IsLevelPicturedOf wanted.entry.layers (option_map (λ s. s.now) wanted.entry.map)
+        (is_some wanted.entry.out) wad result (W.contents writer.old) (W.contents writer.new)
+        × Keeps (F.contents faults.old) (F.contents faults.new)) }
 {
     let mut file = open_read(rt, path, why)?;
     match content_in(&file) {
@@ -217,8 +242,10 @@ where
     W: Write,
     F: Write,
     ensures small { IfOk result (λ s. s ≤ 3) }
-    ensures built { IsBuiltAt path.now result (W.contents writer.old) (W.contents writer.new)
-        (F.contents faults.old) (F.contents faults.new) }
+    ensures built { OverSome path.now result (W.contents writer.old) (W.contents writer.new)
+        (F.contents faults.old) (F.contents faults.new)
+        (λ maps. IsBuiltFrom maps result (W.contents writer.old) (W.contents writer.new))
+        (λ wad. ⊥) }
 {
     let mut file = open_read(rt, path, why)?;
     if let Ok(Content::Text | Content::Picture) = content_in(&file) {

@@ -12,9 +12,9 @@ use crate::examining::examine;
 use crate::listing::list_levels;
 use crate::names_beside::tell_names;
 use crate::over_file::{create_file, draw_file, edit_file, salvage_file, try_onto};
-use crate::over_source::{build_file, check_file, dump_file, lint_file, picture_file};
+use crate::over_input::{build_source, check_source, dump_source, lint_source, picture_source};
 use crate::rebuild_request::rebuild;
-use crate::script_file::try_file;
+use crate::script_file::{script_path, try_file};
 use cli_files::{Hold, NotedFile};
 use cli_print::{Choice, TURNS, Wanted, layers_of};
 use cli_refusals::{Causes, Refusal, ended, report, report_causes, status_in};
@@ -126,9 +126,10 @@ fn is_over_source(request: &Request) -> bool
 }
 
 // Does what is asked for by a request over a file that may be a project, a WAD or a script.
-fn done_with_source<E, W, F>(
+fn done_with_source<E, R, W, F>(
     rt: &E,
     request: &Request,
+    input: &mut R,
     writer: &mut W,
     faults: &mut F,
     why: &mut Causes,
@@ -136,17 +137,19 @@ fn done_with_source<E, W, F>(
 where
     E: AllocGlobal + Files,
     E::File: FileExt + Hold,
+    R: Read,
     W: Write,
     F: Write,
     requires { is_over_source request.now ≡ true }
-    ensures done { IsDoneWith request.now result (W.contents writer.old) (W.contents writer.new)
+    ensures done { IsDoneWith request.now result (R.remaining input.old) (R.remaining input.new)
+        (W.contents writer.old) (W.contents writer.new)
         (F.contents faults.old) (F.contents faults.new) }
     ensures small { IfOk result (λ s. s ≤ 3) }
 {
     match request {
         Request::Check { file, map } => {
             let map = map.as_deref();
-            check_file(rt, file.as_str(), map, writer, faults, why)
+            check_source(rt, file.as_str(), map, input, writer, faults, why)
         }
         Request::Lint {
             file,
@@ -155,12 +158,12 @@ where
             only,
             except,
         } => {
-            let (map, iwad) = (map.as_deref(), iwad.as_deref());
+            let (path, map, iwad) = (file.as_str(), map.as_deref(), iwad.as_deref());
             let choice = Choice { only, except };
-            lint_file(rt, file.as_str(), map, iwad, choice, writer, faults, why)
+            lint_source(rt, path, map, iwad, choice, input, writer, faults, why)
         }
         Request::Dump { file, names, exact } => {
-            dump_file(rt, file.as_str(), names, *exact, writer, faults, why)
+            dump_source(rt, file.as_str(), names, *exact, input, writer, faults, why)
         }
         Request::Picture {
             file,
@@ -176,10 +179,10 @@ where
             let layers = layers_of(*numbers, *heights, *grid, *crop, *nodes, *lint);
             let (map, out) = (map.as_deref(), out.as_deref());
             let wanted = Wanted { map, layers, out };
-            picture_file(rt, file.as_str(), wanted, writer, faults, why)
+            picture_source(rt, file.as_str(), wanted, input, writer, faults, why)
         }
         Request::Build { file, out } => {
-            build_file(rt, file.as_str(), out.as_str(), writer, faults, why)
+            build_source(rt, file.as_str(), out.as_str(), input, writer, faults, why)
         }
         _ => unreachable!(),
     }
@@ -216,17 +219,8 @@ where
             script,
             verbose,
         } => {
-            let script = script.as_deref();
-            draw_file(
-                rt,
-                file.as_str(),
-                script,
-                *verbose,
-                reader,
-                writer,
-                faults,
-                why,
-            )
+            let (path, script) = (file.as_str(), script_path(script));
+            draw_file(rt, path, script, *verbose, reader, writer, faults, why)
         }
         Request::TryScript {
             script,
@@ -235,15 +229,20 @@ where
         } => {
             let path = script.as_str();
             match over {
-                Some(over) => try_onto(rt, over.as_str(), path, *verbose, writer, faults, why),
-                None => try_file(rt, path, *verbose, writer, faults, &mut why.file),
+                Some(over) => {
+                    let file = over.as_str();
+                    try_onto(rt, file, path, *verbose, reader, writer, faults, why)
+                }
+                None => try_file(rt, path, *verbose, reader, writer, faults, &mut why.file),
             }
         }
         Request::Salvage { file } => salvage_file(rt, file.as_str(), writer, faults, why),
         Request::Rebuild { wad, out, maps } => {
             rebuild(rt, wad.as_str(), out.as_str(), maps, writer, faults, why)
         }
-        _ if is_over_source(request) => done_with_source(rt, request, writer, faults, why),
+        _ if is_over_source(request) => {
+            done_with_source(rt, request, reader, writer, faults, why)
+        }
         _ => done_quietly(rt, request, reader, writer, why),
     }
 }

@@ -67,8 +67,9 @@ that the disk failed: each later line is answered `no 32` until FILE is opened a
 pub const CHECK: &str = "\
 Prints what is wrong or unfinished in the map MAP of FILE, by default the current map: a
 line for each finding, then `findings N`. The status is 3 unless N is 0. FILE may also be
-a WAD: MAP is then one of its levels, by default the first. Or FILE is a script: it is
-drawn in memory, and its maps are looked at. FILE isn't changed.";
+a WAD: MAP is then one of its levels, by default the first. Or FILE is a script, or - for
+one on standard input: it is drawn in memory, and its maps are looked at. FILE isn't
+changed.";
 
 /// `lint`.
 pub const LINT: &str = "\
@@ -76,12 +77,12 @@ Checks every map of FILE, or only MAP. Prints what `check` finds, and what proba
 play as intended. Each line begins with the map's name, for example
 `MAP01 line-crossed 12 at (64,64) (128,-64)`; the last line is `findings N`. The status
 is 3 unless N is 0. FILE may also be a WAD: then its levels are checked, and
-`E1M1 no-map REASON` means that a level can't be made a map. Or FILE is a script: it is
-drawn in memory, and its maps are checked. With --iwad it also prints which flats and
-textures of the maps WAD lacks; WAD is usually an IWAD, for example doom2.wad. --only
-prints only the lines with WORD, such as line-crossed, or check for the lines of `check`;
---except leaves them out. Each may be given several times. COMMANDS.md says what to do
-about each line. FILE isn't changed.";
+`E1M1 no-map REASON` means that a level can't be made a map. Or FILE is a script, or - for
+one on standard input: it is drawn in memory, and its maps are checked. With --iwad it
+also prints which flats and textures of the maps WAD lacks; WAD is usually an IWAD, for
+example doom2.wad. --only prints only the lines with WORD, such as line-crossed, or check
+for the lines of `check`; --except leaves them out. Each may be given several times.
+COMMANDS.md says what to do about each line. FILE isn't changed.";
 
 /// `draw`.
 pub const DRAW: &str = "\
@@ -94,8 +95,9 @@ third wall of this room in the lines that follow, and `$line(256,128)` for the l
 place. Four words draw shapes by several commands: `area` a sector inside some corners,
 `pillar` walls round nothing, `door` a door in place of a sector, `change` an item with
 other values, as `change line $line(256,128) SPECIAL=11`. --verbose prints the answer to
-each command. `draw --check SCRIPT` tries a script on maps in memory, and `draw --check
-SCRIPT FILE` over the maps of a project, which stays as it is.";
+each command. A line `include FILE` stands for the lines of another file. `draw --check
+SCRIPT` tries a script on maps in memory, and `draw --check SCRIPT FILE` over the maps of
+a project, which stays as it is; SCRIPT may be -, standard input.";
 
 /// `dump`.
 pub const DUMP: &str = "\
@@ -106,23 +108,24 @@ FILE may also be a WAD of any editor: then its levels, or the last one of each N
 printed as commands. If a level must be changed to become a map, standard error has each
 change, for example `MAP01: thing 3: angle 360 is 0`. A level that can't be made a map
 even so is left out, standard error says why, and the status is 3. With --exact each level
-that needs a change is left out too. Or FILE is a script: it is drawn in memory, and its
-maps are printed as commands without names and sums. --salvage prints the maps of a
-damaged project as far as its commands can be read, and takes neither NAME nor --exact;
-standard error says where FILE is damaged, how many commands are kept and how many are
-not. FILE isn't changed.";
+that needs a change is left out too. Or FILE is a script, or - for one on standard input:
+it is drawn in memory, and its maps are printed as commands without names and sums.
+--salvage prints the maps of a damaged project as far as its commands can be read, and
+takes neither NAME nor --exact; standard error says where FILE is damaged, how many
+commands are kept and how many are not. FILE isn't changed.";
 
 /// `picture`.
 pub const PICTURE: &str = "\
 Draws the map MAP of FILE, by default the current map, as SVG, which a browser shows. FILE
 may also be a WAD: MAP is then one of its levels, by default the first. Or FILE is a
-script, which is drawn in memory. A short tick marks the right side of each line. In a
-browser, point at a line, a vertex or a thing to read its fields.
+script, or - for one on standard input, which is drawn in memory. A short tick marks the
+right side of each line. In a browser, point at a line, a vertex or a thing to read its
+fields.
 The picture goes to standard output, or to OUT, which may be a new path, an empty file or
-a picture that this program made. --numbers adds the numbers of vertices, lines and
-sectors. --nodes adds the partitions and subsectors that `build` makes of the map; for a
-level of a WAD, those that the WAD has. --lint adds a red mark for each line that `lint`
-prints: point at a mark to read its text. --heights fills each closed sector in a colour
+a picture that this program made. --numbers adds the numbers of sectors, lines, vertices
+and things, as many as fit. --nodes adds the partitions and subsectors that `build` makes
+of the map; for a level of a WAD, those that the WAD has. --lint adds a red mark for each
+line that `lint` prints: point at a mark to read its text. --heights fills each closed sector in a colour
 by its floor's height, with a legend; point at a sector to read its fields. --grid draws
 lines at the multiples of 64, and a bar of 256 units. With --crop=X1,Y1,X2,Y2 the page
 shows only that box; X1,Y1 and X2,Y2 are two opposite corners.
@@ -135,9 +138,9 @@ Builds all maps of FILE into one PWAD, writes it to OUT, and prints how many rec
 has and its length. If a map can't be built, OUT stays as it was, and a second line on
 standard error names the map and says why: `leveled: 60 NothingToBuild` means that it has
 no line. OUT may be a new path, an empty file or a PWAD; any other file, such as an IWAD
-or a project, is never replaced. FILE may also be a script, which is drawn in memory: if a
-line is refused, OUT stays as it was, standard error says which one, and the status is 3.
-FILE isn't changed.";
+or a project, is never replaced. FILE may also be a script, or - for one on standard
+input, which is drawn in memory: if a line is refused, OUT stays as it was, standard error
+says which one, and the status is 3. FILE isn't changed.";
 
 /// `rebuild`.
 pub const REBUILD: &str = "\
@@ -180,6 +183,7 @@ the first may be those of the second table.
   NAME WORD ..              draws the shape NAME, with a WORD for each PARAM
   OTHER = NAME WORD ..      the same; OTHER stands for what it adds
   end                       ends the nearest `for`, `at` or `define`
+  include FILE              stands for the lines of FILE, a path beside this script
 
   $NAME                     the number that the command of NAME answered, or a word
   $NAME.vertex              the first vertex that it added; also .line, .side, .sector
@@ -234,7 +238,7 @@ and 70 to 78 from a WAD. What is wrong, or what to do about it:
 34 JournalFull         nothing to do: a project makes room by itself
 35 SlotFull            nothing to do: 14 comes first
 36 InputTooLong        give the input in parts
-37 ReaderFailed        the input can't be read; what was answered is done
+37 ReaderFailed        the input or a script can't be read; what was answered is done
 38 WriterFailed        check where the output goes; what was answered is done
 40 Damaged             use a copy from before the damage, or `dump --salvage`
 41 Blank               `create` was stopped: remove FILE, and create it again
@@ -243,8 +247,8 @@ and 70 to 78 from a WAD. What is wrong, or what to do about it:
 44 BadGeometry         a slot has 33 to 2007015 bytes, a journal 512 to 1048576
 45 NothingThere        in a script: look at `picture --numbers`, or draw it first
 46 BadSum              in a script: correct the sum that the line below names
-47 OpenBlock           in a script: give each `for`, `at`, `define` its `end`
-48 TooManyLines        in a script: let the loops have fewer turns
+47 OpenBlock           in a script: give each `for`, `at`, `define` its `end`; include less deep
+48 TooManyLines        in a script: let the loops have fewer turns, or include fewer files
 50 LumpLength          the WAD is damaged
 60 NothingToBuild      a map has no line: draw one, or drop the map
 61 TooManyVertices     draw fewer lines, or fewer crossings

@@ -1,4 +1,6 @@
+pub mod AnyIncludes
 pub mod Cleaning
+pub mod FileParts
 pub mod Hiding
 pub mod Holding
 pub mod Layering

@@ -1,8 +1,8 @@
 -- The texts of lines, which stand one behind the other.
 use Rattle.std.proofs.Common.{◌≡◌, ℕ, ◌+◌, ◌-◌, ◌<◌, ◌≤◌, List, [], ◌∷◌, ◌++◌, length, get_or, take, drop, refl, ap, ap₂, subst, sym, ◌∙◌, arith, length-append}
 use Rattle.std.specs.Prelude.{zero, suc, slice_get, Some}
-use Rattle.std.proofs.lemmas.List.{drop-append-le, drop_all, length-drop, take-append-le, take_all}
-use Rattle.map_script.specs.Views.{AreLineEnds, begin_of, lines_from, text_between}
+use Rattle.std.proofs.lemmas.List.{drop-append-le, drop_all, length-drop, take-append-le, take_all, take_at}
+use Rattle.map_script.specs.Views.{AreLineEnds, begin_of, line_end_of, lines_from, text_between}
 use Rattle.map_script.specs.declared.script.LineEnd.{LineEnd}
 
 -- all of them end where the last one does, or before
@@ -54,6 +54,14 @@ pub ends_added : (t new w : List ℕ) (es last : List LineEnd) (e : LineEnd) →
 ends_added t new w es last e are is more ends =
     let longer : length t ≤ length new = omega (arith, ap length is, length-append t w) in
     subst (λ (fs : List LineEnd). AreLineEnds 0 fs (length new)) (sym more) (ends_more 0 es e (length t) (length new) are longer ends)
+
+-- the end of a line more, whose number and end are these
+pub end_added : (es last : List LineEnd) (e : LineEnd) (number end : ℕ) → e.number ≡ number → e.end ≡ end → last ≡ es ++ e ∷ [] → last ≡ es ++ line_end_of number end ∷ []
+end_added es last e number end numbered ends is = is ∙ ap₂ (λ (n m : ℕ). es ++ line_end_of n m ∷ []) numbered ends
+
+-- a text that was cut where it ended before
+pub cut_back : (t new w cut : List ℕ) (n : ℕ) → n ≡ length t → new ≡ t ++ w → cut ≡ take n new → cut ≡ t
+cut_back t new w cut n at more is = is ∙ ap₂ (λ (k : ℕ) (u : List ℕ). take k u) at more ∙ take_at t w (length t) refl
 
 -- ---- The line at a place
 

@@ -6,6 +6,7 @@ pub mod Files
 pub mod Firsts
 pub mod Frames
 pub mod Held
+pub mod Includes
 pub mod Known
 pub mod Layers
 pub mod Lines

@@ -10,6 +10,10 @@ use Rattle.map_script.specs.declared.script.ScriptLine.{ScriptLine}
 abbrev pub seen : ScriptLine → ℕ × List ℕ
 seen line = (line.number, line.text.now)
 
+-- the end of a line of this number, at a place
+abbrev pub line_end_of : ℕ → ℕ → LineEnd
+line_end_of number end = record { number = number; end = end }
+
 -- a part of a text, from one place up to another
 abbrev pub text_between : List ℕ → ℕ → ℕ → List ℕ
 text_between text from until = take (until - from) (drop from text)

@@ -1,10 +1,10 @@
 //! The lines of a script, cleaned.
-ghost use Rattle.std.specs.Prelude.{◌≡◌, [], ◌∷◌, ◌++◌, ◌≤◌, ◌<◌, length, slice_get, IfOk, IsOkUnless, Some, option_copied};
+ghost use Rattle.std.specs.Prelude.{◌≡◌, [], ◌∷◌, ◌++◌, ◌≤◌, ◌<◌, length, slice_get, IfErr, IfOk, IsOkUnless, Some, option_copied};
 ghost use Rattle.std.specs.List.{slice_split};
 ghost use Rattle.std.specs.Str.Lines.{strip_carriage_return};
 ghost use Rattle.map_script.specs.declared.error.DrawError.TheVariants.{OutOfMemory};
 ghost use Rattle.map_script.specs.Scripts.{begins_comment, cleaned, is_line_end, script_lines, without_mark};
-ghost use Rattle.map_script.specs.Views.{AreLineEnds, begin_of, len_behind, lines_behind, lines_from, seen, text_between, with_script_line};
+ghost use Rattle.map_script.specs.Views.{AreLineEnds, begin_of, len_behind, line_end_of, lines_behind, lines_from, seen, text_between, with_script_line};
 ghost use Rattle.map_script.specs.Words.{is_some_text};
 
 use crate::error::DrawError;
@@ -82,8 +82,32 @@ fn line_in<'a>(texts: &'a [u8], ends: &[LineEnd], place: usize) -> ScriptLine<'a
 }
 
 impl ScriptLines {
-    ghost use Rattle.std.specs.Prelude.{◌≡◌, ◌<◌, ◌^◌, length, slice_get, Some};
+    ghost use Rattle.std.specs.Prelude.{◌≡◌, ◌<◌, ◌^◌, ◌++◌, ◌∷◌, [], length, slice_get, IfErr, IfOk, IsOkUnless, Some};
     ghost use Rattle.map_script.specs.Views.{seen};
+    ghost use Rattle.map_script.specs.declared.error.DrawError.TheVariants.{OutOfMemory};
+
+    /// No lines. It allocates no memory.
+    pub fn empty(alloc: Global) -> Self
+        ensures { result ≡ [] }
+    {
+        ScriptLines {
+            texts: Vec::new(alloc),
+            ends: Vec::new(alloc),
+        }
+    }
+
+    /// Puts a line behind the others, with its number.
+    ///
+    /// # Errors
+    ///
+    /// Only `OutOfMemory`, also for lines of 4 GiB and more; the lines stay as they are.
+    pub fn put(&mut self, line: &ScriptLine<'_>) -> Result<(), DrawError>
+        ensures ok { IfOk result (λ _. self.new ≡ self.old ++ seen line.now ∷ []) }
+        ensures refused { IfErr result (λ _. self.new ≡ self.old) }
+        ensures memory { IsOkUnless result OutOfMemory }
+    {
+        add_line(&mut self.texts, &mut self.ends, line.number, line.text)
+    }
 
     /// How many lines there are.
     pub fn len(&self) -> usize
@@ -236,8 +260,21 @@ fn line_end(number: usize, end: usize) -> Result<LineEnd, DrawError>
     }
 }
 
-// Adds a line, whose text is cleaned.
-#[tactic(auto, using(crate::proofs::LineTexts::line_added, crate::proofs::LineTexts::ends_added))]
+// Adds the number and the end of a line.
+#[tactic(auto, using(crate::proofs::LineTexts::end_added))]
+fn add_end(ends: &mut Vec<LineEnd>, number: usize, end: usize) -> Result<(), DrawError>
+    ensures ok { IfOk result (λ _.
+        ends.new.items ≡ ends.old.items ++ line_end_of number end ∷ []) }
+    ensures refused { IfErr result (λ _. ends.new.items ≡ ends.old.items) }
+    ensures memory { IsOkUnless result OutOfMemory }
+{
+    let end = line_end(number, end)?;
+    ends.push(end)?;
+    Ok(())
+}
+
+// Adds a line, whose text is cleaned, or leaves all as it is.
+#[tactic(auto, using(crate::proofs::LineTexts::line_added, crate::proofs::LineTexts::ends_added, crate::proofs::LineTexts::cut_back))]
 fn add_line(
     texts: &mut Vec<u8>,
     ends: &mut Vec<LineEnd>,
@@ -248,13 +285,20 @@ fn add_line(
     ensures ok { IfOk result
         (λ _. lines_from texts.new.items 0 ends.new.items
         ≡ lines_from texts.old.items 0 ends.old.items ++ (number, text.now) ∷ []) }
-    ensures ends { IfOk result (λ _. AreLineEnds 0 ends.new.items (length texts.new.items)) }
+    ensures ends { AreLineEnds 0 ends.new.items (length texts.new.items) }
+    ensures texts_stay { IfErr result (λ _. texts.new.items ≡ texts.old.items) }
+    ensures ends_stay { IfErr result (λ _. ends.new.items ≡ ends.old.items) }
     ensures memory { IsOkUnless result OutOfMemory }
 {
+    let before = texts.len();
     texts.extend_from_slice(text)?;
-    let end = line_end(number, texts.len())?;
-    ends.push(end)?;
-    Ok(())
+    match add_end(ends, number, texts.len()) {
+        Ok(()) => Ok(()),
+        Err(error) => {
+            texts.truncate(before);
+            Err(error)
+        }
+    }
 }
 
 // Adds a line, if it has a word.

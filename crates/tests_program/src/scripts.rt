@@ -19,6 +19,40 @@ const LEVEL: &str = "leveled_scripts_level";
 
 const LEVEL_TEXT: &[u8] = b"count\nvertex 1 1";
 
+// A script that includes the level twice, with a line of its own between, and one that includes a refused line.
+const PARTS: &str = "leveled_scripts_parts";
+
+const PARTS_TEXT: &[u8] =
+    b"include leveled_scripts_level\nmap MAP02\n\tinclude  ./leveled_scripts_level # again\n";
+
+const INNER: &str = "leveled_scripts_inner";
+
+const INNER_TEXT: &[u8] = b"# the first\nvertex 5 5\ninclude leveled_scripts_script\n";
+
+// Scripts whose line can't include a file: it is the script itself, is missing, or the line has no word.
+const RING: &str = "leveled_scripts_ring";
+
+const RING_TEXT: &[u8] = b"vertex 1 1\ninclude leveled_scripts_ring\n";
+
+const LACKING: &str = "leveled_scripts_lacking";
+
+const LACKING_TEXT: &[u8] = b"vertx\ninclude leveled_scripts_missing\ninclude\n";
+
+const FORMLESS: &str = "leveled_scripts_formless";
+
+const FORMLESS_TEXT: &[u8] = b"include one two\n";
+
+// The files of scripts, and their texts.
+const SCRIPTS: &[(&str, &[u8])] = &[
+    (SCRIPT, SCRIPT_TEXT),
+    (LEVEL, LEVEL_TEXT),
+    (PARTS, PARTS_TEXT),
+    (INNER, INNER_TEXT),
+    (RING, RING_TEXT),
+    (LACKING, LACKING_TEXT),
+    (FORMLESS, FORMLESS_TEXT),
+];
+
 // Arguments after `leveled`, the input, the status, the output, and standard error. A script of which a line is refused
 // draws nothing: the vertex of the second row is the first. No row makes the file without a script.
 #[rattlefmt::skip]
@@ -44,6 +78,28 @@ const RUNS: &[(&[&str], &[u8], u8, &[u8], &[u8])] = &[
         b"leveled_scripts_script:3: vertx $here 9: 1 NotACommand\n  perhaps this is meant: vertex X Y\n"),
     (&["draw", "--check", NO_SCRIPT], b"", 1, b"",
         b"leveled: 37 ReaderFailed\n  leveled_scripts_missing: No such file or directory\n"),
+    (&["dump", PARTS], b"vertex 9 9\n", 0, b"name MAP01\nvertex 1 1\nmap MAP02\nvertex 1 1\nmap MAP02\n", b""),
+    (&["dump", "-"], PARTS_TEXT, 0, b"name MAP01\nvertex 1 1\nmap MAP02\nvertex 1 1\nmap MAP02\n", b""),
+    (&["draw", "--check", PARTS, "--verbose"], b"", 0,
+        b"vertices 0 sectors 0 sides 0 lines 0 things 0\n2: ok 0\n\
+2: ok 1\nvertices 0 sectors 0 sides 0 lines 0 things 0\n2: ok 0\n", b""),
+    (&["draw", "--check", INNER, "--verbose"], b"", 3, b"2: ok 0\n2: ok 1\n",
+        b"leveled_scripts_script:3: vertx $here 9: 1 NotACommand\n  perhaps this is meant: vertex X Y\n"),
+    (&["check", RING], b"", 3, b"",
+        b"leveled_scripts_ring:2: include leveled_scripts_ring: 47 OpenBlock\n\
+\x20 files include one another more than 16 deep\n"),
+    (&["draw", FILE, LACKING], b"", 3, b"",
+        b"leveled_scripts_lacking:2: include leveled_scripts_missing: 37 ReaderFailed\n\
+\x20 leveled_scripts_missing: No such file or directory\n"),
+    (&["build", FORMLESS, NO_SCRIPT], b"", 3, b"",
+        b"leveled_scripts_formless:1: include one two: 1 NotACommand\n  this is its form: include FILE\n"),
+    (&["lint", "-"], b"include leveled_scripts_file\n", 3, b"",
+        b"-:1: include leveled_scripts_file: 42 NotAProject\n  leveled_scripts_file: is a project, no script\n"),
+    (&["check", "-"], b"count\nvertex 1 1", 3, b"vertex 0 unused\nno player start\nfindings 2\n", b""),
+    (&["check", "-"], b"LVPJ", 1, b"", b"leveled: 42 NotAProject\n  -: is a project, no script\n"),
+    (&["check", "-", "MAP02"], b"vertex 1 1", 1, b"", b"leveled: 18 NoSuchMap\n"),
+    (&["draw", "--check", "-"], b"PWAD", 1, b"", b"leveled: 37 ReaderFailed\n  -: is a WAD, no script\n"),
+    (&["draw", "--check", "-", FILE], b"count", 0, b"vertices 2 sectors 0 sides 0 lines 0 things 0\n", b""),
 ];
 
 // Makes the project file and the script files.
@@ -51,8 +107,9 @@ fn make_files(rt: &HostRuntime) -> Result<(), Fail> {
     let _ = fs::remove_file(rt, FILE);
     let _ = fs::remove_file(rt, NO_SCRIPT);
     let _ = over_file(rt, "create", FILE, b"")?;
-    fs::write(rt, SCRIPT, SCRIPT_TEXT)?;
-    fs::write(rt, LEVEL, LEVEL_TEXT)?;
+    for &(name, text) in SCRIPTS {
+        fs::write(rt, name, text)?;
+    }
     Ok(())
 }
 
@@ -74,8 +131,9 @@ fn draws_scripts(rt: HostRuntime) -> Result<(), Fail> {
         let told = (words, found, out.as_slice(), faults.as_slice());
         same(&rt, &told, &(words, status, wanted, said));
     }
+    for &(name, _) in SCRIPTS {
+        fs::remove_file(&rt, name)?;
+    }
     fs::remove_file(&rt, FILE)?;
-    fs::remove_file(&rt, SCRIPT)?;
-    fs::remove_file(&rt, LEVEL)?;
     Ok(())
 }

@@ -21,7 +21,7 @@ returns-in-Some-clause-drawn g c =
       c.in-Ok.project,
       c.in-Ok.ensures.opened,
       inl (
-        held_back c.args.script.name.now c.args.script.text.now _ (draft_over c.in-Ok.project) (g.F.Write.contents c.args.faults.now) (g.F.Write.contents c.rehearse.new.faults)
+        held_back c.args.script.lines.now c.args.script.files.now _ (draft_over c.in-Ok.project) (g.F.Write.contents c.args.faults.now) (g.F.Write.contents c.rehearse.new.faults)
             c.in-Some.ensures.tried,
         c.into_disk.ensures.disk,
         Keeps-refl (g.W.Write.contents c.args.writer.now),
@@ -39,7 +39,7 @@ returns-clause-drawn g c =
         whole,
         c.draw_onto-how.new.canvas,
         c.into_disk-2.ensures.disk ∙ ap (λ (s : State _). s.disk) c.into_project-project.ensures,
-        subst (λ (d : Drawing _). IsDrawnOnto (project_canvas g.D.Disk) c.args.script.is_verbose c.args.script.text.now c.draw_onto-how.result d c.draw_onto-how.new.canvas
+        subst (λ (d : Drawing _). IsDrawnOnto (project_canvas g.D.Disk) c.args.script.is_verbose c.args.script.lines.now c.draw_onto-how.result d c.draw_onto-how.new.canvas
             (g.W.Write.contents c.args.writer.now) (g.W.Write.contents c.draw_onto-how.new.writer)) c.new-canvas.ensures.first c.draw_onto-how.ensures.drawn,
       ),
     )

@@ -4,11 +4,11 @@ use Rattle.cli_program.proofs.draw_request.draw_whole.Goals as goal
 
 pub returns-in-Ok-clause-drawn : goal.returns-in-Ok-clause-drawn
 returns-in-Ok-clause-drawn g c = (
-  drawn_whole c.args.text.now (Ok c.in-Ok.status) c.args.draft.now c.draw_onto.new.canvas c.in-Ok.ensures.drawn (ap Ok c.if-status-eq-DONE.true),
+  drawn_whole c.args.lines.now (Ok c.in-Ok.status) c.args.draft.now c.draw_onto.new.canvas c.in-Ok.ensures.drawn (ap Ok c.if-status-eq-DONE.true),
   c.in-Ok.ensures.quiet (ap Ok c.if-status-eq-DONE.true),
 )
 
 pub returns-in-Ok-2-clause-drawn : goal.returns-in-Ok-2-clause-drawn
 returns-in-Ok-2-clause-drawn g c =
-    stopped_whole c.args.name.now c.args.text.now c.in-Ok.status c.args.draft.now (g.F.Write.contents c.args.faults.now) (g.F.Write.contents c.draw_onto.new.faults)
+    stopped_whole c.args.lines.now c.args.files.now c.in-Ok.status c.args.draft.now (g.F.Write.contents c.args.faults.now) (g.F.Write.contents c.draw_onto.new.faults)
     c.in-Ok.ensures.told (λ zero. omega (arith, zero, c.if-status-eq-DONE.false))

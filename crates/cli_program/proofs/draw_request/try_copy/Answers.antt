@@ -7,7 +7,7 @@ use Rattle.cli_program.proofs.draw_request.try_copy.Goals as goal
 pub returns-in-Ok-clause-tried : goal.returns-in-Ok-clause-tried
 returns-in-Ok-clause-tried g c = (
   c.draw_onto.new.canvas,
-  subst (λ (p : Drafted). IsDrawnOnto draft_canvas c.args.script.is_verbose c.args.script.text.now c.draw_onto.result p c.draw_onto.new.canvas
+  subst (λ (p : Drafted). IsDrawnOnto draft_canvas c.args.script.is_verbose c.args.script.lines.now c.draw_onto.result p c.draw_onto.new.canvas
       (g.W.Write.contents c.args.writer.now) (g.W.Write.contents c.draw_onto.new.writer)) c.in-Ok.ensures c.draw_onto.ensures.drawn,
 )
 

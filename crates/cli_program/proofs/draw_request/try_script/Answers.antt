@@ -6,6 +6,6 @@ use Rattle.cli_program.proofs.draw_request.try_script.Goals as goal
 pub returns-clause-tried : goal.returns-clause-tried
 returns-clause-tried g c = (
   c.draw_onto.new.canvas,
-  subst (λ (p : Drafted). IsDrawnOnto draft_canvas c.args.script.is_verbose c.args.script.text.now c.draw_onto.result p c.draw_onto.new.canvas
+  subst (λ (p : Drafted). IsDrawnOnto draft_canvas c.args.script.is_verbose c.args.script.lines.now c.draw_onto.result p c.draw_onto.new.canvas
       (g.W.Write.contents c.args.writer.now) (g.W.Write.contents c.draw_onto.new.writer)) c.new-draft.ensures c.draw_onto.ensures.drawn,
 )
