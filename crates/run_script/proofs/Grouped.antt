@@ -1,15 +1,19 @@
 -- Lines whose commands wait together, and where a script is stopped if they are lost.
-use Rattle.std.proofs.Common.{◌≡◌, ◌∙◌, ◌⊎◌, inl, inr, ℕ, ◌<◌, Bool, true, false, List, Option, Some, None, Ok, refl, sym, subst}
-use Rattle.std.specs.Prelude.{IfSome, if◌then◌else◌, suc}
+use Rattle.std.proofs.Common.{◌≡◌, ◌∙◌, ◌⊎◌, inl, inr, ℕ, ◌<◌, Bool, true, false, List, [], Option, Some, None, Ok, refl, ap, sym, subst}
+use Rattle.std.specs.Prelude.{IfSome, MatchOption, if◌then◌else◌, suc}
 use Rattle.std.specs.Io.KnownBytes.{Keeps}
 use Rattle.std.proofs.KnownBytes.{Keeps-refl, Keeps-trans}
 use Rattle.std.proofs.lemmas.Bool.{true≢false}
 use Rattle.run_script.specs.Canvases.{NothingWaits}
 use Rattle.run_script.specs.Defined.{Shape}
-use Rattle.run_script.specs.Drawn.{Advances, ComesTo, EndsFrom, IsAtPlace, IsCutOff, IsStoppedAt, Progress, on_canvas}
+use Rattle.run_script.specs.Drawn.{Advances, ComesTo, EndsFrom, IsAtPlace, IsCutOff, IsStoppedAt, Progress, Refuses, on_canvas}
+use Rattle.run_script.specs.Opened.{open_blocks}
+use Rattle.run_script.specs.Refused.{IsStop, IsStopWithin}
+use Rattle.run_script.specs.declared.drawing.OpenBlock.{OpenBlock}
 use Rattle.run_script.specs.declared.drawing.Stop.{Stop}
 use Rattle.run_script.specs.declared.canvas.Canvas.{Ghosts}
 use Rattle.run_script.proofs.Losing.{Alone, LossTold, Lost, LostIn, Since, StepOf, ToldAll, Within, advance_in, advance_lost}
+use Rattle.run_script.proofs.ToldBlocks.{alone_within}
 
 abbrev pub Begun : {S : Type 0} → Ghosts S → Type 0
 Begun {S = S} facts = (old new : S) (alone : Bool) → facts.begins old alone new
@@ -22,32 +26,54 @@ LostSettled {S = S} facts = (old new : S) → facts.loses old new → facts.sett
 abbrev pub SettledAgain : {S : Type 0} → Ghosts S → Type 0
 SettledAgain {S = S} facts = (old mid new : S) → facts.settles old mid → facts.settles mid new → facts.settles old new
 
+-- a line was refused, in these blocks
+pub stopped_there : {S : Type 0} (facts : Ghosts S) (verbose : Bool) (shapes : List Shape) (start : Progress S) (limit n place code : ℕ) (mid new : Progress S) (told : List OpenBlock)
+    (stop : Stop) (canvas : S) (w : Option (List ℕ)) → ComesTo facts verbose shapes start n mid → IsAtPlace mid.lines mid.turns place
+    → Refuses facts verbose shapes limit n mid code new → IsStop place code told stop → told ≡ open_blocks code mid.lines mid.turns → facts.settles new.sketch.canvas canvas
+    → w ≡ new.sketch.written → IsStoppedAt facts verbose shapes start limit stop canvas w
+stopped_there facts verbose shapes start limit n place code mid new told stop canvas w reached at refuses is blocks settled written = record {
+  count = n;
+  before = mid;
+  after = new;
+  reached = reached;
+  at_place = subst (λ (p : ℕ). IsAtPlace mid.lines mid.turns p) (sym is.place) at;
+  refused = subst (λ (c : ℕ). Refuses facts verbose shapes limit n mid c new) (sym is.code) refuses;
+  blocks = is.blocks ∙ blocks ∙ sym (ap (λ (c : ℕ). open_blocks c mid.lines mid.turns) is.code);
+  put = settled;
+  has = written;
+}
+
+-- a stop at this place with 30, in no block, tells where the script was stopped
+abbrev pub StopsAlone : {S : Type 0} → Ghosts S → Bool → List Shape → Progress S → ℕ → ℕ → S → Option (List ℕ) → Type 0
+StopsAlone facts verbose shapes start limit place last w = (stop : Stop) → IsStop place 30 [] stop → IsStoppedAt facts verbose shapes start limit stop last w
+
 -- where what waits is lost, the script is stopped at this place, of so many, with 30
 abbrev pub IsLostFrom : {S : Type 0} → Ghosts S → Bool → List Shape → Progress S → ℕ → ℕ → ℕ → Option (List ℕ) → S → Type 0
 IsLostFrom {S = S} facts verbose shapes start limit many place written canvas =
     (last : S) → facts.loses canvas last → (place < many) × (verbose ≡ false)
-    × ((w : Option (List ℕ)) → Keeps written w → IsStoppedAt facts verbose shapes start limit (record { place = place; code = 30 }) last w)
+    × ((w : Option (List ℕ)) → Keeps written w → StopsAlone facts verbose shapes start limit place last w)
 
 module _ {S : Type 0} (facts : Ghosts S) (since : Since facts) (within : Within facts) (alone : Alone facts) (told_all : ToldAll facts) (loss_told : LossTold facts)
     (begun : Begun facts) (lost_settled : LostSettled facts) (again : SettledAgain facts) where
   stop_then : (verbose : Bool) (shapes : List Shape) (start : Progress S) (limit place : ℕ) (other last : S) (w : Option (List ℕ))
-      → IsStoppedAt facts verbose shapes start limit (record { place = place; code = 30 }) other w → facts.settles other last
-      → IsStoppedAt facts verbose shapes start limit (record { place = place; code = 30 }) last w
-  stop_then verbose shapes start limit place other last w stop settled = record {
-    count = stop.count;
-    before = stop.before;
-    after = stop.after;
-    reached = stop.reached;
-    at_place = stop.at_place;
-    refused = stop.refused;
-    put = again stop.after.sketch.canvas other last stop.put settled;
-    has = stop.has;
-  }
+      → StopsAlone facts verbose shapes start limit place other w → facts.settles other last → StopsAlone facts verbose shapes start limit place last w
+  stop_then verbose shapes start limit place other last w stops settled stop is =
+      let old = stops stop is in record {
+        count = old.count;
+        before = old.before;
+        after = old.after;
+        reached = old.reached;
+        at_place = old.at_place;
+        refused = old.refused;
+        blocks = old.blocks;
+        put = again old.after.sketch.canvas other last old.put settled;
+        has = old.has;
+      }
 
   before_lost : (verbose : Bool) (shapes : List Shape) (start : Progress S) (limit many place : ℕ) (old began last : S) (u w : Option (List ℕ)) → facts.begins old verbose began
       → IsLostFrom facts verbose shapes start limit many place u old → facts.loses began last → (verbose ≡ false → Keeps u w)
       → (facts.holds_earlier began ≡ true) × (place < many) × (verbose ≡ false)
-      × ((x : Option (List ℕ)) → Keeps w x → IsStoppedAt facts verbose shapes start limit (record { place = place; code = 30 }) last x)
+      × ((x : Option (List ℕ)) → Keeps w x → StopsAlone facts verbose shapes start limit place last x)
   before_lost verbose shapes start limit many place old began last u w begins known lost kept =
       let (still, (other, gone, settled)) = (begun old began verbose begins).2 last lost in
       let (below, quiet, stops) = known other gone in
@@ -61,20 +87,13 @@ module _ {S : Type 0} (facts : Ghosts S) (since : Since facts) (within : Within 
       let (kept, lines) = advance_lost facts since within alone told_all loss_told verbose shapes (on_canvas began mid) new refusal last drawn lost in go kept lines
     where
       StopsAt : ℕ → Type 0
-      StopsAt p = (p < many) × (verbose ≡ false) × ((w : Option (List ℕ)) → Keeps new.sketch.written w → IsStoppedAt facts verbose shapes start limit (record { place = p; code = 30 }) last w)
+      StopsAt p = (p < many) × (verbose ≡ false) × ((w : Option (List ℕ)) → Keeps new.sketch.written w → StopsAlone facts verbose shapes start limit p last w)
 
       stopped : (w : Option (List ℕ)) → StepOf facts since within alone told_all loss_told verbose shapes mid.lines (on_canvas began mid) last w
-          → IsStoppedAt facts verbose shapes start limit (record { place = place; code = 30 }) last w
-      stopped w (x, drawn, canvas, written) = record {
-        count = n;
-        before = mid;
-        after = x;
-        reached = reached;
-        at_place = at;
-        refused = inl (under, (began, begins, drawn));
-        put = subst (λ (s : S). facts.settles s last) (sym canvas) (lost_settled new.sketch.canvas last lost);
-        has = sym written;
-      }
+          → StopsAlone facts verbose shapes start limit place last w
+      stopped w (x, drawn, canvas, written) stop is =
+          stopped_there facts verbose shapes start limit n place 30 mid x [] stop last w reached at (inl (under, (began, begins, drawn))) is refl
+          (subst (λ (s : S). facts.settles s last) (sym canvas) (lost_settled new.sketch.canvas last lost)) (sym written)
 
       go : (verbose ≡ false → Keeps mid.sketch.written new.sketch.written)
           → Lost facts since within alone told_all loss_told began new.sketch.canvas last
@@ -92,12 +111,12 @@ module _ {S : Type 0} (facts : Ghosts S) (since : Since facts) (within : Within 
   pub line_lost : (verbose : Bool) (shapes : List Shape) (start : Progress S) (limit many before : ℕ) (mid new : Progress S) (began : S) (code : ℕ) → facts.begins mid.sketch.canvas verbose began
       → Advances facts verbose shapes (on_canvas began mid) (Some code) new → facts.has_lost new.sketch.canvas ≡ true
       → IsLostFrom facts verbose shapes start limit many before mid.sketch.written mid.sketch.canvas
-      → (before < many) × IsStoppedAt facts verbose shapes start limit (record { place = before; code = 30 }) new.sketch.canvas new.sketch.written
+      → (before < many) × StopsAlone facts verbose shapes start limit before new.sketch.canvas new.sketch.written
   line_lost verbose shapes start limit many before mid new began code begins drawn lost known =
       go (advance_in facts since within alone told_all loss_told verbose shapes (on_canvas began mid) new code drawn lost)
     where
       go : LostIn facts since within alone told_all loss_told code began new.sketch.canvas (Keeps mid.sketch.written new.sketch.written)
-          → (before < many) × IsStoppedAt facts verbose shapes start limit (record { place = before; code = 30 }) new.sketch.canvas new.sketch.written
+          → (before < many) × StopsAlone facts verbose shapes start limit before new.sketch.canvas new.sketch.written
       go (inl already) = absurd (true≢false (sym already ∙ (begun mid.sketch.canvas began verbose begins).0))
       go (inr (thirty, waits, gone, kept)) =
           let (still, (other, lost, settled)) = (begun mid.sketch.canvas began verbose begins).2 new.sketch.canvas gone in
@@ -121,25 +140,27 @@ none_lost_from facts verbose shapes start limit many place written canvas nothin
 
 abbrev Finishes : {S : Type 0} → Ghosts S → S → S → Option Stop → Option Stop → ℕ → Type 0
 Finishes facts old new ended result first =
-    (facts.settles old new × (result ≡ ended)) ⊎ (facts.loses old new × (result ≡ Some (record { place = first; code = 30 })))
+    (facts.settles old new × (result ≡ ended)) ⊎ (facts.loses old new × MatchOption result ⊥ (IsStop first 30 []))
 
 pub finished : {S : Type 0} (facts : Ghosts S) (verbose : Bool) (shapes : List Shape) (start : Progress S) (limit many first : ℕ) (written : Option (List ℕ)) (old new : S) (ended result : Option Stop)
     → (facts.settles old new → EndsFrom facts verbose shapes start limit (Ok ended) new written) → IsLostFrom facts verbose shapes start limit many first written old
     → Finishes facts old new ended result first → EndsFrom facts verbose shapes start limit (Ok result) new written
 finished facts verbose shapes start limit many first written old new ended result ends lost (inl (settled, is)) =
     subst (λ (o : Option Stop). EndsFrom facts verbose shapes start limit (Ok o) new written) (sym is) (ends settled)
-finished facts verbose shapes start limit many first written old new ended result ends lost (inr (gone, is)) =
+finished facts verbose shapes start limit many first written old new ended None ends lost (inr (gone, none)) = absurd none
+finished facts verbose shapes start limit many first written old new ended (Some stop) ends lost (inr (gone, is)) =
     let (below, quiet, stops) = lost new gone in
-    subst (λ (o : Option Stop). EndsFrom facts verbose shapes start limit (Ok o) new written) (sym is) (stops written (Keeps-refl written))
+    stops written (Keeps-refl written) stop is
 
-pub finished_place : {S : Type 0} (facts : Ghosts S) (verbose : Bool) (shapes : List Shape) (start : Progress S) (limit many first : ℕ) (written : Option (List ℕ)) (old new : S) (ended result : Option Stop)
-    → IfSome ended (λ s. s.place < many) → IsLostFrom facts verbose shapes start limit many first written old
-    → Finishes facts old new ended result first → IfSome result (λ s. s.place < many)
-finished_place facts verbose shapes start limit many first written old new ended result inside lost (inl (settled, is)) =
-    subst (λ (o : Option Stop). IfSome o (λ s. s.place < many)) (sym is) inside
-finished_place facts verbose shapes start limit many first written old new ended result inside lost (inr (gone, is)) =
+pub finished_within : {S : Type 0} (facts : Ghosts S) (verbose : Bool) (shapes : List Shape) (start : Progress S) (limit many first : ℕ) (written : Option (List ℕ)) (old new : S) (ended result : Option Stop)
+    → IfSome ended (IsStopWithin many) → IsLostFrom facts verbose shapes start limit many first written old → Finishes facts old new ended result first
+    → IfSome result (IsStopWithin many)
+finished_within facts verbose shapes start limit many first written old new ended result inside lost (inl (settled, is)) =
+    subst (λ (o : Option Stop). IfSome o (IsStopWithin many)) (sym is) inside
+finished_within facts verbose shapes start limit many first written old new ended None inside lost (inr (gone, none)) = absurd none
+finished_within facts verbose shapes start limit many first written old new ended (Some stop) inside lost (inr (gone, is)) =
     let (below, quiet, stops) = lost new gone in
-    subst (λ (o : Option Stop). IfSome o (λ s. s.place < many)) (sym is) below
+    alone_within many first 30 stop is below
 
 -- lines were drawn, and perhaps one more, when a call was cut off
 pub cut_off_at : {S : Type 0} (facts : Ghosts S) (verbose : Bool) (shapes : List Shape) (first mid : Progress S) (began canvas new : S) (n : ℕ) → ComesTo facts verbose shapes first n mid

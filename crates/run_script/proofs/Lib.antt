@@ -10,3 +10,4 @@ pub mod Positions
 pub mod Progressing
 pub mod Putting
 pub mod ShapeSteps
+pub mod ToldBlocks

@@ -32,7 +32,8 @@ next_line lines i until x is inside =
     numbered_at 0 i until lines x is inside
     ∙ ap₂ (λ (k m : ℕ). (k, x) ∷ drop m (take until (with_places lines))) here after
 
-line_at : (lines : List (ℕ × List ℕ)) (i : ℕ) → i < length lines → (x : ℕ × List ℕ) × (slice_get lines i ≡ Some x)
+-- a line stands at each place
+pub line_at : (lines : List (ℕ × List ℕ)) (i : ℕ) → i < length lines → (x : ℕ × List ℕ) × (slice_get lines i ≡ Some x)
 line_at [] i below = absurd (omega (arith, below))
 line_at (l ∷ ls) zero below = (l, refl)
 line_at (l ∷ ls) (suc i) below = line_at ls i (omega (arith, below))

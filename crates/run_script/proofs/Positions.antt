@@ -12,7 +12,7 @@ use Rattle.map_script.specs.declared.looping.Range.{Range}
 use Rattle.map_script.specs.declared.placing.Placing.{Placing}
 use Rattle.run_script.specs.Blocks.{behind_block, lines_between, block_len, block_lines}
 use Rattle.run_script.specs.Turns.{Counting, EndsTurn, OpensBlock, Position, Turn, after_at, after_count, after_loop, after_names, after_turn, counted_names, first_count, in_turn, next_count, turn_at, with_naming}
-use Rattle.run_script.specs.Places.{Enters, IsBlockWithin, IsNextBlock, IsWithinLines, counting_of, naming_in, position_of, turn_of, turns_of}
+use Rattle.run_script.specs.Places.{AreBlocksTold, Enters, IsBlockWithin, IsNextBlock, IsWithinLines, counting_of, naming_in, position_of, turn_of, turns_of}
 use Rattle.run_script.specs.declared.reading.Block.{Block}
 use Rattle.run_script.specs.declared.reading.Count.{Count}
 use Rattle.run_script.specs.declared.reading.Reading.{Reading}
@@ -157,9 +157,10 @@ not-named all names m bs outer b e p split (inr is) =
 
 -- a block that was entered stands within the lines, as those around it
 pub entered_within : (count : ℕ) → count < 2 ^ 63 → (names named : Scope) (placing : Placing) (outer : List Block) (b : Block) (r : Reading) → Enters names placing outer b named r → All (IsBlockWithin count) outer
-    → IsBlockWithin count b → IsWithinLines count r
-entered_within count few names named placing outer b r e all w = record {
+    → IsBlockWithin count b → AreBlocksTold r → IsWithinLines count r
+entered_within count few names named placing outer b r e all w told = record {
   few = few;
   until = omega (arith, e.until, w.end);
   blocks = subst (λ (bs : List Block). All (IsBlockWithin count) bs) (sym e.blocks) (All-push (IsBlockWithin count) outer b all w);
+  told = told;
 }

@@ -1,5 +1,5 @@
 -- A script that is drawn line by line, and turn by turn.
-use Rattle.std.proofs.Common.{◌≡◌, ◌⊎◌, inl, inr, ℕ, ◌+◌, ◌<◌, ◌≤◌, ◌^◌, Bool, List, [], ◌∷◌, ◌++◌, length, refl, ap, ap₂, sym, subst, ◌∙◌, arith, Option, Some, None, Result, Ok, Err}
+use Rattle.std.proofs.Common.{◌≡◌, ◌⊎◌, inl, inr, ℕ, ◌+◌, ◌<◌, ◌≤◌, ◌^◌, Bool, List, [], ◌∷◌, ◌++◌, length, map, refl, ap, ap₂, sym, subst, ◌∙◌, arith, Option, Some, None, Result, Ok, Err}
 use Rattle.std.specs.Prelude.{All, slice_get, IfNone, IfOk, MatchOption, MatchResult, suc, zero}
 use Rattle.std.proofs.lemmas.List.Elements.{All-nil}
 use Rattle.map_tables.specs.Projects.{current_map}
@@ -18,7 +18,7 @@ use Rattle.run_script.specs.Defined.{Shape, shape_called}
 use Rattle.run_script.specs.Drawn.{Advances, AdvancesOver, ComesTo, DrawsNext, Progress, Steps, at_first, at_position, opened_by}
 use Rattle.run_script.specs.Lines.{DrawsLine, Sketch, sketch_of}
 use Rattle.run_script.specs.Turns.{EndsTurn, OpensBlock, Position, Turn, after_at, after_drawing, after_define, after_loop, after_naming, after_opening, after_words, line_naming}
-use Rattle.run_script.specs.Places.{AdvancesTo, IsBlockWithin, IsFirstReading, IsWithinLines, position_of, progress_of, turns_of}
+use Rattle.run_script.specs.Places.{AdvancesTo, IsBlockWithin, IsFirstReading, IsWithinLines, position_of, progress_of, told_block, turns_of}
 use Rattle.run_script.specs.declared.canvas.Canvas.{Ghosts}
 use Rattle.run_script.specs.declared.error.ScriptError.{ScriptError}
 use Rattle.run_script.specs.declared.error.ScriptError.TheVariants as cut
@@ -166,4 +166,5 @@ start_within count r few first = record {
   few = few;
   until = omega (arith, first.until);
   blocks = subst (λ (bs : List Block). All (IsBlockWithin count) bs) (sym first.blocks) (All-nil (IsBlockWithin count));
+  told = first.told ∙ sym (ap (map told_block) first.blocks);
 }

@@ -12,6 +12,7 @@ pub mod Names
 pub mod Opened
 pub mod Orders
 pub mod Places
+pub mod Progress
 pub mod PutLaws
 pub mod Refused
 pub mod Shaped

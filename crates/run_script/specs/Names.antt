@@ -43,13 +43,15 @@ script_name code =
     else (if code == 48 then codes "TooManyLines"
     else codes "NothingThere"))))))))))))
 
--- the name of one of a project file
+-- the name of one of a file
 abbrev pub file_name : ℕ → List ℕ
 file_name code =
     if code == 30 then codes "Device"
     else (if code == 32 then codes "Reopen"
     else (if code == 33 then codes "GenerationsSpent"
-    else codes "Memory"))
+    else (if code == 37 then codes "ReaderFailed"
+    else (if code == 42 then codes "NotAProject"
+    else codes "Memory"))))
 
 -- the name of a refusal
 abbrev pub stop_name : ℕ → List ℕ

@@ -1,11 +1,12 @@
 -- The blocks that are open, and where a script has come (docs/COMMANDS.md, "Scripts").
-use Rattle.std.specs.Prelude.{ℕ, ℤ, List, [], ◌∷◌, ◌++◌, Option, Some, None}
+use Rattle.std.specs.Prelude.{ℕ, ℤ, ◌-◌, ◌==◌, ◌||◌, if◌then◌else◌, List, [], ◌∷◌, ◌++◌, length, map, take, Option, Some, None}
 use Rattle.map_tables.specs.Tables.{Tables}
 use Rattle.map_script.specs.Firsts.{counts_of}
 use Rattle.map_script.specs.Scopes.{Scope, with_block, with_turn_name}
 use Rattle.map_script.specs.declared.firsts.ItemCounts.{ItemCounts}
 use Rattle.map_script.specs.declared.names.Mark.{Mark}
 use Rattle.map_script.specs.declared.placing.Placing.{Placing}
+use Rattle.run_script.specs.declared.drawing.OpenBlock.{OpenBlock}
 
 -- what a loop counts: its name, the number of its turn and the last one
 pub record Counting : Type 0 where
@@ -53,3 +54,26 @@ in_turn names placing turns t = record {
   lines = t.body;
   turns = turns ++ t ∷ [];
 }
+
+-- ---- The blocks that are told of a refused line
+
+-- the number of a turn, if a loop counts it
+abbrev pub turn_number : Option Counting → Option ℤ
+turn_number None = None
+turn_number (Some c) = Some c.number
+
+-- an open block as it is told: by the place of its line, and by the number of its turn
+abbrev pub told_turn : Turn → OpenBlock
+told_turn t = record { place = t.place; number = turn_number t.count }
+
+-- the turns around what comes next: the first of these lines, or else the end of the innermost turn,
+-- which that turn isn't around
+abbrev pub turns_around : List (ℕ × (ℕ × List ℕ)) → List Turn → List Turn
+turns_around [] turns = take (length turns - 1) turns
+turns_around (l ∷ ls) turns = turns
+
+-- the blocks that are told where a script stopped with a code before these lines of the innermost of
+-- these turns: none if the disk failed or memory ran out
+abbrev pub open_blocks : ℕ → List (ℕ × (ℕ × List ℕ)) → List Turn → List OpenBlock
+open_blocks code lines turns =
+    if (code == 30) || (code == 31) then [] else map told_turn (turns_around lines turns)

@@ -8,8 +8,10 @@ use Rattle.run_script.specs.Defined.{Shape}
 use Rattle.run_script.specs.Drawn.{Advances, Progress}
 use Rattle.run_script.specs.Lines.{sketch_of}
 use Rattle.run_script.specs.Opened as spec
+use Rattle.run_script.specs.Opened.{told_turn, turn_number, turns_around}
 use Rattle.run_script.specs.Turns.{Counting, Position, Turn, counted_names}
 use Rattle.run_script.specs.declared.canvas.Canvas.{Ghosts}
+use Rattle.run_script.specs.declared.drawing.OpenBlock.{OpenBlock}
 use Rattle.run_script.specs.declared.error.ScriptError.{ScriptError}
 use Rattle.run_script.specs.declared.error.ScriptError.TheVariants.{OutOfMemory, WriterFailed}
 use Rattle.run_script.specs.declared.reading.Block.{Block}
@@ -60,17 +62,35 @@ progress_of lines canvas names written r = record {
   turns = turns_of lines r.blocks.items;
 }
 
+-- a block as it is told
+abbrev pub told_block : Block → OpenBlock
+told_block b = record { place = b.place; number = turn_number (counting_of b.count) }
+
+-- each open block is told
+abbrev pub AreBlocksTold : Reading → Type 0
+AreBlocksTold r = r.told.items ≡ map told_block r.blocks.items
+
+-- the blocks around what comes next, as they are told
+abbrev pub told_around : List (ℕ × (ℕ × List ℕ)) → Reading → List OpenBlock
+told_around lines r = map told_turn
+    (turns_around (lines_between lines r.place r.until) (turns_of lines r.blocks.items))
+
+-- behind a refusal with a code these are told, unless it is 31
+abbrev pub IsToldBehind : ℕ → List OpenBlock → Reading → Type 0
+IsToldBehind code blocks r = (code ≡ 31) ⊎ (r.told.items ≡ blocks)
+
 -- a block stands within so many lines
 pub record IsBlockWithin (count : ℕ) (b : Block) : Type 0 where
   pub place : b.place < count
   pub end : b.end ≤ count
   pub until : b.until ≤ count
 
--- what is read does, and the place behind the last line is a number too
+-- what is read does, each block is told, and the place behind the last line is a number too
 pub record IsWithinLines (count : ℕ) (r : Reading) : Type 0 where
   pub few : count < 2 ^ 63
   pub until : r.until ≤ count
   pub blocks : All (IsBlockWithin count) r.blocks.items
+  pub told : AreBlocksTold r
 
 -- a block that places lines so was entered at its turn, of these names, within these
 pub record Enters (scope : Scope) (placing : Placing) (outer : List Block) (b : Block)
@@ -97,6 +117,7 @@ pub record IsFirstReading (count : ℕ) (r : Reading) : Type 0 where
   pub place : r.place ≡ 0
   pub until : r.until ≡ count
   pub blocks : r.blocks.items ≡ []
+  pub told : r.told.items ≡ []
 
 -- how a call ended that should draw one line or end one turn: it was done, or refused with a code; or
 -- memory ran out or the writer failed, and it was done but for what was to be said, or nothing was

@@ -106,7 +106,7 @@ fn script_name(code: u16) -> &'static str
     }
 }
 
-// The name of a refusal that comes from store_project.
+// The name of a refusal of a file.
 fn file_name(code: u16) -> &'static str
     ensures { result.now ≡ file_name code }
 {
@@ -114,6 +114,8 @@ fn file_name(code: u16) -> &'static str
         30 => "Device",
         32 => "Reopen",
         33 => "GenerationsSpent",
+        37 => "ReaderFailed",
+        42 => "NotAProject",
         _ => "Memory",
     }
 }

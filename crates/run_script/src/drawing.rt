@@ -1,12 +1,13 @@
 //! Draws a script line by line, up to the first refused line.
-ghost use Rattle.std.specs.Prelude.{◌≡◌, ◌⊎◌, ◌<◌, ◌^◌, if◌then◌else◌, length, vec_len, Some, IfNone, IfOk, IfSome};
+ghost use Rattle.std.specs.Prelude.{◌≡◌, ◌⊎◌, ◌<◌, ◌^◌, ◌==◌, ◌||◌, ℕ, if◌then◌else◌, List, [], length, vec_len, IfNone, IfOk, IfSome, MatchOption};
 ghost use Rattle.map_script.specs.Known.{scope_of};
 ghost use Rattle.map_script.specs.Scopes.{first_scope};
 ghost use Rattle.run_script.specs.Blocks.{with_places};
 ghost use Rattle.run_script.specs.Canvases.{NothingWaits};
 ghost use Rattle.run_script.specs.Defined.{shapes_in};
 ghost use Rattle.run_script.specs.Drawn.{EndsFrom, IsScriptDrawn, at_first, line_limit};
-ghost use Rattle.run_script.specs.Places.{AdvancesTo, IsFirstReading, IsWithinLines, progress_of};
+ghost use Rattle.run_script.specs.Places.{AdvancesTo, IsFirstReading, IsToldBehind, IsWithinLines, progress_of, told_around};
+ghost use Rattle.run_script.specs.Refused.{IsStop, IsStopWithin};
 ghost use Rattle.run_script.specs.ShapePlaces.{AreShapesWithin, shapes_among};
 
 use crate::blocks::order_fault;
@@ -23,13 +24,25 @@ use std::alloc::Global;
 use std::io::Write;
 use store_project::ProjectError;
 
-/// A line of a script that was refused.
+/// A block that was open where a script stopped.
 #[derive(Clone, Copy)]
+pub struct OpenBlock {
+    /// The index of the line that opened it, among the lines, from 0.
+    pub place: usize,
+    /// The number of its turn, if it is a loop's.
+    pub number: Option<i64>,
+}
+
+/// A line of a script that was refused.
+#[derive(Drop)]
 pub struct Stop {
     /// Its index among the lines, from 0.
     pub place: usize,
     /// The number of the refusal.
     pub code: u16,
+    /// The blocks that were open around it, the outermost first. If it was refused at the end of its block, that isn't
+    /// one of them. There are none with 30 and 31, nor with 47 if the blocks are out of order.
+    pub open: Vec<OpenBlock>,
 }
 
 // How many lines more than it has a script may draw, each end of a block's turn counted as one.
@@ -44,6 +57,7 @@ fn first_reading(alloc: Global, lines: &ScriptLines) -> Reading
         place: 0,
         until: lines.len(),
         blocks: Vec::new(alloc),
+        told: Vec::new(alloc),
     }
 }
 
@@ -68,6 +82,8 @@ fn draw_next<C: Canvas, W: Write>(
         (progress_of all canvas.new (scope_of names.new) (W.contents writer.new) reading.new) }
     ensures within { IfOk result (λ refusal.
         IfNone refusal (IsWithinLines (length lines.now) reading.new)) }
+    ensures told { IfOk result (λ refusal. IfSome refusal (λ code.
+        IsToldBehind code reading.old.told.items reading.new)) }
 {
     let line = lines.line(reading.place);
     if let Some(words) = loop_words(line.text) {
@@ -107,6 +123,8 @@ fn advance<C: Canvas, W: Write>(
         (progress_of all canvas.new (scope_of names.new) (W.contents writer.new) reading.new) }
     ensures within { IfOk result (λ refusal.
         IfNone refusal (IsWithinLines (length lines.now) reading.new)) }
+    ensures told { IfOk result (λ refusal. IfSome refusal (λ code.
+        IsToldBehind code (told_around (with_places lines.now) reading.old) reading.new)) }
 {
     if reading.place < reading.until {
         draw_next(
@@ -124,32 +142,85 @@ fn first_place(first: usize, place: usize, holds_earlier: bool) -> usize
     if holds_earlier { first } else { place }
 }
 
-// What is told where commands were lost that waited from the line at `first` on.
-fn lost_from(first: usize) -> Stop
-    ensures { result ≡ record { place = first; code = 30 } }
+// What is told of a line in no block.
+fn stop_alone(alloc: Global, place: usize, code: u16) -> Stop
+    ensures { IsStop place code [] result }
 {
-    let code = ProjectError::Device.code();
-    Stop { place: first, code }
+    Stop {
+        place,
+        code,
+        open: Vec::new(alloc),
+    }
+}
+
+// What is told where commands were lost that waited from the line at `first` on.
+fn lost_from(alloc: Global, first: usize) -> Stop
+    ensures { IsStop first 30 [] result }
+{
+    stop_alone(alloc, first, ProjectError::Device.code())
+}
+
+// Whether no block is told with a code: the disk failed, and an earlier line may be told, or memory ran out.
+fn is_told_alone(code: u16) -> bool
+    ensures { result ≡ (code == 30) || (code == 31) }
+{
+    code == ProjectError::Device.code() || code == DrawError::OutOfMemory.code()
+}
+
+// What is told of a line that was refused, if these blocks are open behind it.
+fn stop_at(alloc: Global, place: usize, code: u16, told: Vec<OpenBlock>) -> Stop
+    ensures { IsStop place code (if (code == 30) || (code == 31) then [] else told.items)
+        result }
+{
+    if is_told_alone(code) {
+        return stop_alone(alloc, place, code);
+    }
+    Stop {
+        place,
+        code,
+        open: told,
+    }
+}
+
+// What is told of the blocks around what comes next: the end of a block isn't within it.
+fn told_around(read: Reading) -> Vec<OpenBlock>
+    ensures { (lines : List (ℕ × List ℕ)) → IsWithinLines (length lines) read
+        → result.items ≡ told_around (with_places lines) read }
+{
+    let mut told = read.told;
+    if read.place < read.until {
+        return told;
+    }
+    let _ = told.pop();
+    told
 }
 
 // What is told where a script draws more lines than it may.
-fn too_many_at(place: usize) -> Stop
-    ensures { result ≡ record { place = place; code = 48 } }
+fn too_many_at(reading: Reading, place: usize) -> Stop
+    ensures { (lines : List (ℕ × List ℕ)) → IsWithinLines (length lines) reading
+        → IsStop place 48 (told_around (with_places lines) reading) result }
 {
-    let code = DrawError::TooManyLines.code();
-    Stop { place, code }
+    Stop {
+        place,
+        code: DrawError::TooManyLines.code(),
+        open: told_around(reading),
+    }
 }
 
 // Puts what waits from the line at `first` on, and returns how the drawing ended.
-fn finish<C: Canvas>(canvas: &mut C, ended: Option<Stop>, first: usize) -> Option<Stop>
+fn finish<C: Canvas>(
+    alloc: Global,
+    canvas: &mut C,
+    ended: Option<Stop>,
+    first: usize,
+) -> Option<Stop>
     ensures { (C.Canvas.settles canvas.old canvas.new × (result ≡ ended))
-        ⊎ (C.Canvas.loses canvas.old canvas.new
-        × (result ≡ Some (record { place = first; code = 30 }))) }
+        ⊎ (C.Canvas.loses canvas.old canvas.new × MatchOption result ⊥ (IsStop first 30 [])) }
 {
     if canvas.settle() {
         ended
     } else {
-        Some(lost_from(first))
+        Some(lost_from(alloc, first))
     }
 }
 
@@ -177,16 +248,16 @@ fn draw_all<C: Canvas, W: Write>(
         (shapes_among (with_places lines.now) shapes.now)
         (at_first canvas.old (W.contents writer.old) lines.now)
         (line_limit lines.now) result canvas.new (W.contents writer.new) }
-    ensures place { IfOk result (λ stop. IfSome stop (λ s. s.place < length lines.now)) }
+    ensures within { IfOk result (λ stop. IfSome stop (IsStopWithin (length lines.now))) }
 {
     let mut reading = first_reading(alloc, lines);
     let mut first = 0;
     for _count in 0..MORE_LINES + lines.len() {
         let Some(place) = place_at_hand(lines, &reading) else {
-            return Ok(finish(canvas, None, first));
+            return Ok(finish(alloc, canvas, None, first));
         };
         if !canvas.begin_line(is_verbose) {
-            return Ok(Some(lost_from(first)));
+            return Ok(Some(lost_from(alloc, first)));
         }
         let refusal = match advance(
             alloc,
@@ -208,14 +279,15 @@ fn draw_all<C: Canvas, W: Write>(
         first = first_place(before, place, canvas.holds_earlier());
         if let Some(code) = refusal {
             if canvas.has_lost() {
-                return Ok(Some(lost_from(before)));
+                return Ok(Some(lost_from(alloc, before)));
             }
-            return Ok(finish(canvas, Some(Stop { place, code }), first));
+            let stop = stop_at(alloc, place, code, reading.told);
+            return Ok(finish(alloc, canvas, Some(stop), first));
         }
     }
     match place_at_hand(lines, &reading) {
-        None => Ok(finish(canvas, None, first)),
-        Some(place) => Ok(finish(canvas, Some(too_many_at(place)), first)),
+        None => Ok(finish(alloc, canvas, None, first)),
+        Some(place) => Ok(finish(alloc, canvas, Some(too_many_at(reading, place)), first)),
     }
 }
 
@@ -234,7 +306,7 @@ fn draw_shaped<C: Canvas, W: Write>(
         EndsFrom C.Canvas is_verbose (shapes_in all)
         (at_first canvas.old (W.contents writer.old) lines.now)
         (line_limit lines.now) result canvas.new (W.contents writer.new) }
-    ensures place { IfOk result (λ stop. IfSome stop (λ s. s.place < length lines.now)) }
+    ensures within { IfOk result (λ stop. IfSome stop (IsStopWithin (length lines.now))) }
 {
     match shapes_in(alloc, lines) {
         Ok(shapes) => draw_all(alloc, canvas, names, lines, &shapes, is_verbose, writer),
@@ -272,12 +344,12 @@ pub fn draw<C: Canvas, W: Write>(
     requires settled { NothingWaits C.Canvas canvas.old }
     ensures drawn { IsScriptDrawn C.Canvas is_verbose lines.now result
         canvas.old (W.contents writer.old) canvas.new (W.contents writer.new) }
-    ensures place { IfOk result (λ stop. IfSome stop (λ s. s.place < length lines.now)) }
+    ensures within { IfOk result (λ stop. IfSome stop (IsStopWithin (length lines.now))) }
 {
     match order_fault(lines) {
         Some(place) => {
             let code = DrawError::OpenBlock.code();
-            Ok(Some(Stop { place, code }))
+            Ok(Some(stop_alone(alloc, place, code)))
         }
         None => draw_shaped(alloc, canvas, names, lines, is_verbose, writer),
     }

@@ -1,14 +1,14 @@
 //! The end of a block: its loop's next turn, or the lines behind it.
-ghost use Rattle.std.specs.Prelude.{◌≡◌, ◌⊎◌, ◌<◌, Err, IfErr, IfNone, IfOk, Ok, length, vec_len};
+ghost use Rattle.std.specs.Prelude.{◌≡◌, ◌⊎◌, ◌<◌, ◌-◌, Err, IfErr, IfNone, IfOk, IfSome, Ok, length, take, vec_len};
 ghost use Rattle.map_script.specs.Known.{scope_of};
 ghost use Rattle.map_script.specs.declared.error.DrawError.TheVariants.{OutOfMemory};
 ghost use Rattle.map_tables.specs.Projects.{current_map};
 ghost use Rattle.run_script.specs.Blocks.{with_places};
-ghost use Rattle.run_script.specs.Places.{IsWithinLines, counting_of, naming_in, position_of, turns_of};
+ghost use Rattle.run_script.specs.Places.{IsToldBehind, IsWithinLines, counting_of, naming_in, position_of, turns_of};
 ghost use Rattle.run_script.specs.Turns.{EndsTurn, next_count, with_naming};
 
 use crate::canvas::Canvas;
-use crate::reading::{Block, Count, Naming, Reading, enter};
+use crate::reading::{Block, Count, Naming, Reading, enter, leave};
 use map_script::{DrawError, Names, Numbers, ScriptLines, firsts_since};
 use map_tables::Map;
 use std::alloc::Global;
@@ -69,10 +69,10 @@ pub fn end_turn<C: Canvas>(
         (turns_of all reading.old.blocks.items) result
         (position_of all (scope_of names.new) reading.new) }
     ensures within { IfNone result (IsWithinLines (length lines.now) reading.new) }
+    ensures told { IfSome result (λ code. IsToldBehind code
+        (take (length reading.old.told.items - 1) reading.old.told.items) reading.new) }
 {
-    let Some(block) = reading.blocks.pop() else {
-        return None;
-    };
+    let block = leave(reading);
     let answered = names.answered();
     names.release(block.before);
     match give_name(

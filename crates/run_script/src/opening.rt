@@ -1,5 +1,5 @@
 //! The lines that open blocks: `for NAME FROM TO` and `at X Y [ANGLE]`.
-ghost use Rattle.std.specs.Prelude.{◌≡◌, ◌+◌, int_le, ◌<◌, ◌^◌, IfNone, IfOk, IsOkUnless, Some, length};
+ghost use Rattle.std.specs.Prelude.{◌≡◌, ◌+◌, int_le, ◌<◌, ◌^◌, IfNone, IfOk, IfSome, IsOkUnless, Some, length};
 ghost use Rattle.map_script.specs.Ats.{at_placing};
 ghost use Rattle.map_script.specs.Known.{scope_of};
 ghost use Rattle.map_script.specs.Loops.{loop_range};
@@ -8,7 +8,7 @@ ghost use Rattle.map_script.specs.Words.{text_words};
 ghost use Rattle.map_script.specs.declared.error.DrawError.TheVariants.{OutOfMemory};
 ghost use Rattle.map_tables.specs.Projects.{current_map};
 ghost use Rattle.run_script.specs.Blocks.{lines_between, with_places};
-ghost use Rattle.run_script.specs.Places.{Enters, IsNextBlock, IsWithinLines, counting_of, position_of, turns_of};
+ghost use Rattle.run_script.specs.Places.{AreBlocksTold, Enters, IsNextBlock, IsToldBehind, IsWithinLines, counting_of, position_of, turns_of};
 ghost use Rattle.run_script.specs.Turns.{OpensBlock, after_at, after_loop, first_count};
 ghost use Rattle.run_script.specs.declared.reading.Block.{Block};
 
@@ -31,10 +31,12 @@ fn open_next(
 ) -> Result<(), DrawError>
     requires place { reading.old.place < 2 ^ 63 }
     requires end { end < 2 ^ 63 }
+    requires told { AreBlocksTold reading.old }
     ensures ok { IfOk result (λ _. (b : Block)
         × IsNextBlock end (mark_of (scope_of names.old)) (counting_of count) reading.old b
         × Enters (scope_of names.old) placing reading.old.blocks.items b
         (scope_of names.new) reading.new) }
+    ensures told { IfOk result (λ _. AreBlocksTold reading.new) }
     ensures memory { IsOkUnless result OutOfMemory }
 {
     let block = Block {
@@ -75,11 +77,13 @@ fn open_first(
 ) -> Result<(), DrawError>
     requires place { reading.old.place < 2 ^ 63 }
     requires end { end < 2 ^ 63 }
+    requires told { AreBlocksTold reading.old }
     ensures ok { IfOk result (λ _. (b : Block)
         × IsNextBlock end (mark_of (scope_of names.old))
         (Some (first_count (text_words words.now) range.now)) reading.old b
         × Enters (scope_of names.old) (scope_of names.old).placing reading.old.blocks.items b
         (scope_of names.new) reading.new) }
+    ensures told { IfOk result (λ _. AreBlocksTold reading.new) }
     ensures memory { IsOkUnless result OutOfMemory }
 {
     let count = first_count(alloc, words, range)?;
@@ -114,6 +118,8 @@ pub fn open_loop<C: Canvas>(
         (loop_range (scope_of names.old) (current_map (C.Canvas.maps_in canvas.now)) words))
         (scope_of names.old) result (position_of all (scope_of names.new) reading.new) }
     ensures within { IfNone result (IsWithinLines (length lines.now) reading.new) }
+    ensures told { IfSome result (λ code.
+        IsToldBehind code reading.old.told.items reading.new) }
 {
     let range = match loop_range(alloc, names, canvas.maps().current(), words) {
         Ok(range) => range,
@@ -151,6 +157,8 @@ pub fn open_at<C: Canvas>(
         (text_words words.now)))
         (scope_of names.old) result (position_of all (scope_of names.new) reading.new) }
     ensures within { IfNone result (IsWithinLines (length lines.now) reading.new) }
+    ensures told { IfSome result (λ code.
+        IsToldBehind code reading.old.told.items reading.new) }
 {
     let placing = match at_placing(alloc, names, canvas.maps().current(), words) {
         Ok(placing) => placing,

@@ -1,12 +1,14 @@
 //! How far a script has been read: its next line, and the blocks that are open.
-ghost use Rattle.std.specs.Prelude.{◌≡◌, ◌⊎◌, ◌<◌, [], IfOk, IfSome, IsOkUnless, MatchOption, length, vec_len};
+ghost use Rattle.std.specs.Prelude.{◌≡◌, ◌⊎◌, ◌<◌, ◌-◌, [], ◌∷◌, ◌++◌, IfOk, IfSome, IsOkUnless, MatchOption, length, take, vec_len};
 ghost use Rattle.map_script.specs.Known.{scope_of};
 ghost use Rattle.map_script.specs.declared.error.DrawError.TheVariants.{OutOfMemory};
 ghost use Rattle.run_script.specs.Blocks.{lines_between, with_places};
 ghost use Rattle.run_script.specs.Drawn.{IsAtPlace};
-ghost use Rattle.run_script.specs.Places.{Enters, IsWithinLines, counting_of, turns_of};
+ghost use Rattle.run_script.specs.Opened.{turn_number};
+ghost use Rattle.run_script.specs.Places.{AreBlocksTold, Enters, IsWithinLines, counting_of, told_block, turns_of};
 ghost use Rattle.run_script.specs.Turns.{counted_names};
 
+use crate::drawing::OpenBlock;
 use map_script::{DrawError, ItemCounts, Mark, Names, Placing, ScriptLines};
 use std::alloc::Global;
 
@@ -59,6 +61,8 @@ pub struct Reading {
     pub until: usize,
     /// The blocks that are open, the outermost first.
     pub blocks: Vec<Block>,
+    /// The same as they are told where the script stops: then nothing is allocated for it.
+    pub told: Vec<OpenBlock>,
 }
 
 /// The place of the next line, or of the line whose block ends next, if the script isn't over.
@@ -93,6 +97,41 @@ fn hold_count(alloc: Global, names: &mut Names, count: &Option<Count>) -> Result
     }
 }
 
+// The number of a turn, if a loop counts it.
+fn turn_number(count: &Option<Count>) -> Option<i64>
+    ensures { result ≡ turn_number (counting_of count.now) }
+{
+    match count {
+        Some(count) => Some(count.number),
+        None => None,
+    }
+}
+
+// A block as it is told.
+fn told_block(block: &Block) -> OpenBlock
+    ensures { result ≡ told_block block.now }
+{
+    OpenBlock {
+        place: block.place,
+        number: turn_number(&block.count),
+    }
+}
+
+// Puts a block behind those that are open.
+fn put_block(reading: &mut Reading, block: Block) -> Result<(), DrawError>
+    requires told { AreBlocksTold reading.old }
+    ensures place { IfOk result (λ _. reading.new.place ≡ reading.old.place) }
+    ensures until { IfOk result (λ _. reading.new.until ≡ reading.old.until) }
+    ensures blocks { IfOk result (λ _.
+        reading.new.blocks.items ≡ reading.old.blocks.items ++ block ∷ []) }
+    ensures told { IfOk result (λ _. AreBlocksTold reading.new) }
+    ensures memory { IsOkUnless result OutOfMemory }
+{
+    reading.told.push(told_block(&block))?;
+    reading.blocks.push(block)?;
+    Ok(())
+}
+
 /// Enters a block that places lines so, at the turn that it is in.
 ///
 /// # Errors
@@ -105,15 +144,33 @@ pub fn enter(
     block: Block,
     placing: Placing,
 ) -> Result<(), DrawError>
+    requires told { AreBlocksTold reading.old }
     ensures ok { IfOk result (λ _.
         Enters (scope_of names.old) placing reading.old.blocks.items block
         (scope_of names.new) reading.new) }
+    ensures told { IfOk result (λ _. AreBlocksTold reading.new) }
     ensures memory { IsOkUnless result OutOfMemory }
 {
     names.enter(placing);
     hold_count(alloc, names, &block.count)?;
     reading.place = block.from;
     reading.until = block.end;
-    reading.blocks.push(block)?;
+    put_block(reading, block)?;
     Ok(())
+}
+
+/// Leaves the innermost block.
+pub fn leave(reading: &mut Reading) -> Block
+    requires some { 0 < vec_len reading.old.blocks }
+    requires told { AreBlocksTold reading.old }
+    ensures blocks { reading.old.blocks.items ≡ reading.new.blocks.items ++ result ∷ [] }
+    ensures told { AreBlocksTold reading.new }
+    ensures around { reading.new.told.items
+        ≡ take (length reading.old.told.items - 1) reading.old.told.items }
+{
+    let _ = reading.told.pop();
+    let Some(block) = reading.blocks.pop() else {
+        unreachable!();
+    };
+    block
 }

@@ -327,9 +327,9 @@ pub fn reason_of(
     maps: &Maps,
     names: &Names,
     lines: &ScriptLines,
-    stop: Stop,
+    stop: &Stop,
 ) -> Result<String, AllocError>
-    requires { stop.place < length lines.now }
+    requires { stop.now.place < length lines.now }
 {
     let line = lines.line(stop.place);
     match called_at(alloc, lines, stop.place)? {

@@ -1,34 +1,39 @@
-//! Writes the two lines that say which line of a script was refused, and what was wrong with it.
-ghost use Rattle.std.specs.Prelude.{◌≡◌, ◌++◌, ◌<◌, ℕ, List, MatchResult, Some, length, slice_get};
+//! Writes the lines that say which line of a script was refused, what was wrong with it, and in which blocks it stands.
+ghost use Rattle.std.specs.Prelude.{◌≡◌, ◌++◌, ℕ, List, MatchResult, Some, length, slice_get};
 ghost use Rattle.std.specs.Io.KnownBytes.{Appends};
 ghost use Rattle.map_script.specs.Views.{seen};
-ghost use Rattle.run_script.specs.Refused.{TellsStop, line_place, refusal_text};
+ghost use Rattle.run_script.specs.Refused.{IsStopWithin, TellsStop, blocks_text, line_place, refusal_text, line_refusal};
 ghost use Rattle.run_script.specs.declared.error.ScriptError.TheVariants.{WriterFailed};
 
 use crate::calling::stop_name;
 use crate::drawing::Stop;
 use crate::error::ScriptError;
+use crate::open_blocks::write_blocks;
 use crate::reasons::reason_of;
-use map_script::{Names, ScriptLine, ScriptLines};
+use map_script::{Names, ScriptFiles, ScriptLine, ScriptLines};
 use map_tables::Maps;
 use std::alloc::Global;
 use std::io::Write;
 
-// Writes the script's name and the line's number.
-fn write_place<W: Write>(script: &str, number: usize, writer: &mut W) -> Result<(), ScriptError>
+// Writes the file's name and the line's number.
+fn write_place<W: Write>(file: &str, number: usize, writer: &mut W) -> Result<(), ScriptError>
     ensures { MatchResult result
         (λ _. Appends (W.contents writer.old) (W.contents writer.new)
-        (line_place script.now number))
+        (line_place file.now number))
         (λ e. e ≡ WriterFailed) }
 {
-    match write!(writer, "{script}:{number}: ") {
+    match write!(writer, "{file}:{number}: ") {
         Ok(()) => Ok(()),
         Err(_) => Err(ScriptError::WriterFailed),
     }
 }
 
-// Writes the line's text.
-fn write_text<W: Write>(text: &[u8], writer: &mut W) -> Result<(), ScriptError>
+/// Writes a text as it is.
+///
+/// # Errors
+///
+/// Only `WriterFailed`.
+pub fn write_text<W: Write>(text: &[u8], writer: &mut W) -> Result<(), ScriptError>
     ensures { MatchResult result
         (λ _. Appends (W.contents writer.old) (W.contents writer.new) text.now)
         (λ e. e ≡ WriterFailed) }
@@ -59,7 +64,7 @@ fn write_reason<W: Write>(
 
 // Writes both lines.
 fn write_both<W: Write>(
-    script: &str,
+    file: &str,
     line: &ScriptLine<'_>,
     code: u16,
     name: &str,
@@ -68,11 +73,11 @@ fn write_both<W: Write>(
 ) -> Result<(), ScriptError>
     ensures { MatchResult result
         (λ _. Appends (W.contents writer.old) (W.contents writer.new)
-        (line_place script.now (seen line.now).0
+        (line_place file.now (seen line.now).0
         ++ ((seen line.now).1 ++ refusal_text code name.now reason.now)))
         (λ e. e ≡ WriterFailed) }
 {
-    match write_place(script, line.number, writer) {
+    match write_place(file, line.number, writer) {
         Ok(()) => {}
         Err(error) => return Err(error),
     }
@@ -83,8 +88,32 @@ fn write_both<W: Write>(
     write_reason(code, name, reason, writer)
 }
 
-/// Writes which of the lines of a script was refused, `SCRIPT:NUMBER: TEXT: CODE NAME`, and in a second line what was
-/// wrong, given the maps as they are and the names of the earlier lines. `script` is its name.
+/// Writes which line of a file was refused, `FILE:NUMBER: TEXT: CODE NAME`, and the reason in a second line. `file` is
+/// the file's name.
+///
+/// # Errors
+///
+/// Only `WriterFailed`.
+pub fn write_refused_line<W: Write>(
+    file: &str,
+    line: &ScriptLine<'_>,
+    code: u16,
+    reason: &str,
+    writer: &mut W,
+) -> Result<(), ScriptError>
+    ensures { MatchResult result
+        (λ _. Appends (W.contents writer.old) (W.contents writer.new)
+        (line_refusal file.now (seen line.now) code reason.now))
+        (λ e. e ≡ WriterFailed) }
+{
+    let name = stop_name(code);
+    write_both(file, line, code, name, reason, writer)
+}
+
+/// Writes which of the lines of a script was refused, `FILE:NUMBER: TEXT: CODE NAME`, in a second line what was wrong,
+/// given the maps as they are and the names of the earlier lines, and then a line about each open block, the innermost
+/// first: `  in NAME, FILE:NUMBER` about a shape, `  NAME = TURN, FILE:NUMBER` about a loop, none about an `at`.
+/// `files` has the name of each line's file.
 ///
 /// # Errors
 ///
@@ -94,19 +123,27 @@ pub fn write_refused<W: Write>(
     maps: &Maps,
     names: &Names,
     lines: &ScriptLines,
-    script: &str,
-    stop: Stop,
+    files: &ScriptFiles,
+    stop: &Stop,
     writer: &mut W,
 ) -> Result<(), ScriptError>
-    requires { stop.place < length lines.now }
-    ensures { (line : ℕ × List ℕ) → slice_get lines.now stop.place ≡ Some line
-        → TellsStop result script.now line stop.code
+    requires within { IsStopWithin (length lines.now) stop.now }
+    requires files { length files.now ≡ length lines.now }
+    ensures { (line : ℕ × List ℕ) (file : List ℕ)
+        → slice_get lines.now stop.now.place ≡ Some line
+        → slice_get files.now stop.now.place ≡ Some file
+        → TellsStop result file line stop.now.code
+        (blocks_text lines.now files.now stop.now.open.items)
         (W.contents writer.old) (W.contents writer.new) }
 {
     let line = lines.line(stop.place);
+    let file = files.file(stop.place);
     let Ok(reason) = reason_of(alloc, maps, names, lines, stop) else {
         return Err(ScriptError::OutOfMemory);
     };
-    let name = stop_name(stop.code);
-    write_both(script, &line, stop.code, name, reason.as_str(), writer)
+    match write_refused_line(file, &line, stop.code, reason.as_str(), writer) {
+        Ok(()) => {}
+        Err(error) => return Err(error),
+    }
+    write_blocks(lines, files, &stop.open, writer)
 }

@@ -1,5 +1,5 @@
 //! The lines that define shapes, `define NAME PARAM ..`, and those that draw them, `NAME WORD ..`.
-ghost use Rattle.std.specs.Prelude.{◌≡◌, ◌+◌, ◌<◌, ◌^◌, IfNone, IfOk, IsOkUnless, length, option_copied};
+ghost use Rattle.std.specs.Prelude.{◌≡◌, ◌+◌, ◌<◌, ◌^◌, IfNone, IfOk, IfSome, IsOkUnless, length, option_copied};
 ghost use Rattle.map_script.specs.Defines.{call_words, define_fault};
 ghost use Rattle.map_script.specs.Known.{scope_of};
 ghost use Rattle.map_script.specs.Lines.{name_in};
@@ -7,7 +7,7 @@ ghost use Rattle.map_script.specs.Words.{text_words};
 ghost use Rattle.map_script.specs.declared.error.DrawError.TheVariants.{OutOfMemory};
 ghost use Rattle.map_tables.specs.Projects.{current_map};
 ghost use Rattle.run_script.specs.Blocks.{lines_between, with_places};
-ghost use Rattle.run_script.specs.Places.{IsWithinLines, naming_in, position_of, turns_of};
+ghost use Rattle.run_script.specs.Places.{IsToldBehind, IsWithinLines, naming_in, position_of, turns_of};
 ghost use Rattle.run_script.specs.ShapePlaces.{IsShapeWithin, shape_among};
 ghost use Rattle.run_script.specs.Turns.{OpensBlock, after_drawing, after_define, in_shape, line_naming, turn_of_shape};
 
@@ -41,6 +41,8 @@ pub fn pass_define(
         (turns_of all reading.old.blocks.items) (define_fault (text_words words.now)))
         (scope_of names.now) result (position_of all (scope_of names.now) reading.new) }
     ensures within { IfNone result (IsWithinLines (length lines.now) reading.new) }
+    ensures told { IfSome result (λ code.
+        IsToldBehind code reading.old.told.items reading.new) }
 {
     if let Some(error) = define_fault(words) {
         return Some(error.code());
@@ -135,6 +137,8 @@ pub fn open_shape<C: Canvas>(
         (text_words shape.now.parameters.items) (text_words line.now)))
         (scope_of names.old) result (position_of all (scope_of names.new) reading.new) }
     ensures within { IfNone result (IsWithinLines (length lines.now) reading.new) }
+    ensures told { IfSome result (λ code.
+        IsToldBehind code reading.old.told.items reading.new) }
 {
     let map = canvas.maps().current();
     let text = match call_words(alloc, names, map, &shape.parameters, line) {

@@ -11,19 +11,20 @@ use store_disk::{FaultDisk, MemoryDisk};
 use store_project::Geometry;
 use tests_store::small::vertices;
 
-// What a drawing left: how many vertices the project has, the line that was refused, what was written, and the disk.
+// What a drawing left: how many vertices the project has, the line that was refused, its code and the number of its
+// blocks, what was written, and the disk.
 #[derive(Drop)]
 struct Ended {
     count: u32,
-    stop: Option<(usize, u16)>,
+    stop: Option<(usize, u16, usize)>,
     out: Vec<u8>,
     disk: FaultDisk<MemoryDisk>,
 }
 
-// The place and the code of a stop.
-fn parts_of(stop: Option<Stop>) -> Option<(usize, u16)> {
+// The place and the code of a stop, and how many blocks are told.
+fn parts_of(stop: Option<Stop>) -> Option<(usize, u16, usize)> {
     match stop {
-        Some(stop) => Some((stop.place, stop.code)),
+        Some(stop) => Some((stop.place, stop.code, stop.open.len())),
         None => None,
     }
 }
@@ -55,9 +56,9 @@ fn fail_within(
 }
 
 // The stop at the first line that isn't on the disk.
-fn wanted_stop(kept: u32, count: u32) -> Option<(usize, u16)> {
+fn wanted_stop(kept: u32, count: u32) -> Option<(usize, u16, usize)> {
     if kept < count {
-        Some((kept as usize, 30))
+        Some((kept as usize, 30, 0))
     } else {
         None
     }
@@ -95,7 +96,7 @@ type Stopped = (
     &'static [u8],
     bool,
     u64,
-    Option<(usize, u16)>,
+    Option<(usize, u16, usize)>,
     &'static [u8],
 );
 
@@ -103,21 +104,26 @@ type Stopped = (
 // lines before it. Where the answers are written, each line is put before the next.
 #[rattlefmt::skip]
 const SCRIPTS: &[Stopped] = &[
-    (ASKING, false, 9, Some((1, 30)), b""),
-    (ASKING, false, 12, Some((1, 30)), b""),
-    (ASKING, false, 13, Some((4, 30)), b"0 MAP01\ncurrent 0\n"),
-    (ASKING, false, 16, Some((4, 30)), b"0 MAP01\ncurrent 0\n"),
-    (ASKING, false, 17, Some((6, 10)), b"0 MAP01\ncurrent 0\n"),
-    (TOLD, true, 9, Some((0, 30)), b""),
-    (TOLD, true, 12, Some((0, 30)), b""),
-    (TOLD, true, 13, Some((1, 30)), b"1: ok 0\n"),
+    (ASKING, false, 9, Some((1, 30, 0)), b""),
+    (ASKING, false, 12, Some((1, 30, 0)), b""),
+    (ASKING, false, 13, Some((4, 30, 0)), b"0 MAP01\ncurrent 0\n"),
+    (ASKING, false, 16, Some((4, 30, 0)), b"0 MAP01\ncurrent 0\n"),
+    (ASKING, false, 17, Some((6, 10, 0)), b"0 MAP01\ncurrent 0\n"),
+    (TOLD, true, 9, Some((0, 30, 0)), b""),
+    (TOLD, true, 12, Some((0, 30, 0)), b""),
+    (TOLD, true, 13, Some((1, 30, 0)), b"1: ok 0\n"),
     (TOLD, true, 17, None, b"1: ok 0\n2: ok 1\n"),
+    (LOOPED, false, 9, Some((1, 30, 0)), b""),
+    (LOOPED, false, 99, Some((2, 10, 1)), b""),
+    (LOOPED, true, 13, Some((2, 30, 0)), b"2: ok 0\n"),
 ];
 
 const ASKING: &[u8] = b"let w 64\nvertex 0 $w\nvertex $w 0\nmaps\n\
     room 128 0 256 256 0 128 FLOOR4_8 CEIL3_5 STARTAN3 160\nvertex 7 7\nvertex 7 7\n";
 
 const TOLD: &[u8] = b"vertex 0 0\nvertex 1 0\n";
+
+const LOOPED: &[u8] = b"for i 0 2\nthing $i 0 0 1 7\nvertex 0 0\nend\n";
 
 #[test]
 fn stops_at_the_first_line_that_is_lost(rt: HostRuntime) -> Result<(), Fail> {

@@ -1,10 +1,20 @@
 //! Scripts, drawn onto maps in memory, and what is reported about a refused line.
+ghost use Rattle.std.specs.Prelude.{◌≡◌, IfOk, length};
 
 use crate::expect::same;
-use map_script::{Names, ScriptLines, script_lines};
+use map_script::{DrawError, Names, ScriptFiles, ScriptLines, script_lines};
 use run_script::{Canvas, Draft, draw, write_refused};
 use std::alloc::Global;
 use std::test::Fail;
+
+// The file in which each line stands: all in one.
+fn files_of(alloc: Global, lines: &ScriptLines) -> Result<ScriptFiles, DrawError>
+    ensures { IfOk result (λ files. length files ≡ length lines.now) }
+{
+    let mut files = ScriptFiles::new(alloc);
+    files.put(alloc, "level.txt", lines.len())?;
+    Ok(files)
+}
 
 // Draws lines: the output, and what is reported about the refused line.
 fn draw_lines(
@@ -18,13 +28,14 @@ fn draw_lines(
     let mut faults = Vec::new(alloc);
     let stop = draw(alloc, &mut draft, &mut names, lines, verbose, &mut out)?;
     if let Some(stop) = stop {
+        let files = files_of(alloc, lines)?;
         write_refused(
             alloc,
             draft.maps(),
             &names,
             lines,
-            "level.txt",
-            stop,
+            &files,
+            &stop,
             &mut faults,
         )?;
     }
@@ -61,7 +72,7 @@ const SCRIPTS: &[(&[u8], bool, &[u8], &[u8])] = &[
     (b"for i 0 0\nlet w 64\nv = vertex $w $i\nend\nvertex $v+8 $v\nvertex $w 0", true, b"3: ok 0\n5: ok 1\n",
         b"level.txt:6: vertex $w 0: 22 UnknownName\n  no line before has this name\n"),
     (b"for i 0 1\nvertex $i 0\nvertex 0 $i\nend", true, b"2: ok 0\n",
-        b"level.txt:3: vertex 0 $i: 10 PlaceTaken\n  vertex 0 stands at 0 0\n"),
+        b"level.txt:3: vertex 0 $i: 10 PlaceTaken\n  vertex 0 stands at 0 0\n  i = 0, level.txt:1\n"),
     (b"for = vertex 0 0\nend = vertex 1 1\nvertex $for+8 $end", true, b"1: ok 0\n2: ok 1\n3: ok 2\n", b""),
     (b"vertex 0 0\nfor i 0 9\nfor j 0 9\nend\ncount", true, b"",
         b"level.txt:2: for i 0 9: 47 OpenBlock\n  \
@@ -116,15 +127,43 @@ const SCRIPTS: &[(&[u8], bool, &[u8], &[u8])] = &[
         b"level.txt:4: 8 = post: 20 NotAName\n  a name is a letter, then letters, digits and _\n"),
     (b"define one\ntwo\nend\ndefine two\nvertex 0 0\nend\ntwo\none", true, b"5: ok 0\n",
         b"level.txt:2: two: 1 NotACommand\n  \
-        no command, no query and no shape known here begins with two\n"),
+        no command, no query and no shape known here begins with two\n  in one, level.txt:8\n"),
     (b"vertex 0 0\nfor i 0 1\ndefine a\nend\nend", true, b"",
         b"level.txt:3: define a: 47 OpenBlock\n  \
         a block without its end, an end without a block, a define in a block, or blocks more than 64 deep\n"),
     (b"define vertex X\nend", true, b"", b"level.txt:1: define vertex X: 20 NotAName\n  \
         NAME and each PARAM is a letter, then letters, digits and _, and no word of the language\n"),
-    (b"for i 1 9223372036854775807\nend", true, b"",
-        b"level.txt:1: for i 1 9223372036854775807: 48 TooManyLines\n  \
-        loops and shapes draw more than 1000000 lines\n"),
+    (b"for i 1 2\nfor j 1 9223372036854775807\nend\nend", true, b"",
+        b"level.txt:2: for j 1 9223372036854775807: 48 TooManyLines\n  \
+        loops and shapes draw more than 1000000 lines\n  i = 1, level.txt:1\n"),
+];
+
+// Scripts that are refused in blocks, and what is reported.
+#[rattlefmt::skip]
+const IN_BLOCKS: &[(&[u8], &[u8])] = &[
+    (b"for i 0 2\n  for j 5 7\n    thing $i*$j*2731 0 0 1 7\n  end\nend",
+        b"level.txt:3: thing $i*$j*2731 0 0 1 7: 2 OutOfRange\n  \
+        16386 stands for X, a number from -16384 to 16383\n  j = 6, level.txt:2\n  i = 1, level.txt:1\n"),
+    (b"define post X\n\n  at 8 8\n    thing $X 0 0 1 7\n  end\nend\nfor k -1 1\n  p = post 16376*$k\nend",
+        b"level.txt:4: thing $X 0 0 1 7: 2 OutOfRange\n  \
+        16384 stands for X, a number from -16384 to 16383\n  in post, level.txt:8\n  k = 1, level.txt:7\n"),
+    (b"for n -2 0\nvertex 0 $n*8193\nend",
+        b"level.txt:2: vertex 0 $n*8193: 2 OutOfRange\n  \
+        -16386 stands for Y, a number from -16384 to 16383\n  n = -2, level.txt:1\n"),
+    (b"define none\nlet x 1\nend\ndefine outer\nn = none\nend\nfor i 3 4\nouter\nend",
+        b"level.txt:5: n = none: 23 NothingAdded\n  \
+        the shape has no command that answers a number\n  in outer, level.txt:8\n  i = 3, level.txt:7\n"),
+    (b"for i 0 1\nat 16383*$i 0\nat 1 0\nend\nend\nend",
+        b"level.txt:3: at 1 0: 2 OutOfRange\n  at moves 0 0 to a place from -16384 to 16383\n  i = 1, level.txt:1\n"),
+    (b"define a X\nvertex $X 0\nend\nfor i 1 2\na $i 7\nend",
+        b"level.txt:5: a $i 7: 1 NotACommand\n  it has 3 words in place of 2: a X\n  i = 1, level.txt:4\n"),
+    (b"define inner\nfor i 7 8\nvertex 0 $i/7\nend\nend\ndefine outer N\nfor i $N 9\ninner\nend\nend\n\
+        let i 4\nouter 2*$i",
+        b"level.txt:3: vertex 0 $i/7: 46 BadSum\n  $i/7: a quotient of the sum isn't a whole number\n  \
+        i = 8, level.txt:2\n  in inner, level.txt:8\n  i = 8, level.txt:7\n  in outer, level.txt:12\n"),
+    (b"for i 0 1\nat 0 0\nend\nend\nend",
+        b"level.txt:5: end: 47 OpenBlock\n  \
+        a block without its end, an end without a block, a define in a block, or blocks more than 64 deep\n"),
 ];
 
 // The same for a script.
@@ -139,6 +178,15 @@ fn draws_scripts(rt: HostRuntime) -> Result<(), Fail> {
         let (out, faults) = draw_script(rt.alloc(), script, verbose)?;
         let told = (script, out.as_slice(), faults.as_slice());
         same(&rt, &told, &(script, wanted, said));
+    }
+    Ok(())
+}
+
+#[test]
+fn tells_the_blocks_of_a_refused_line(rt: HostRuntime) -> Result<(), Fail> {
+    for &(script, said) in IN_BLOCKS {
+        let (_, faults) = draw_script(rt.alloc(), script, false)?;
+        same(&rt, &(script, faults.as_slice()), &(script, said));
     }
     Ok(())
 }

@@ -1,13 +1,13 @@
-use Rattle.std.proofs.Common.{◌≡◌, ◌∙◌, ◌+◌, ◌<◌, inl, inr, List, ℕ, ap, arith, length, refl, subst, sym}
+use Rattle.std.proofs.Common.{◌≡◌, ◌∙◌, ◌+◌, ◌<◌, inl, inr, List, None, Some, ℕ, arith, length, refl, sym}
 use Rattle.std.proofs.KnownBytes.{Keeps-refl}
 use Rattle.map_script.specs.Known.{scope_of}
 use Rattle.run_script.specs.Blocks.{with_places}
-use Rattle.run_script.specs.Drawn.{IsAtPlace, IsStoppedAt, at_first, line_limit}
-use Rattle.run_script.specs.declared.drawing.Stop.{Stop}
-use Rattle.run_script.specs.Places.{progress_of}
+use Rattle.run_script.specs.Drawn.{at_first, line_limit}
+use Rattle.run_script.specs.Places.{progress_of, told_around}
 use Rattle.run_script.specs.ShapePlaces.{shapes_among}
-use Rattle.run_script.proofs.Grouped.{at_first_place, cut_off_at, finished, finished_place, line_lost, next_lost, none_lost_from}
+use Rattle.run_script.proofs.Grouped.{at_first_place, cut_off_at, finished, finished_within, line_lost, next_lost, none_lost_from, stopped_there}
 use Rattle.run_script.proofs.Progressing.{ComesTo-more, at_start, start_within}
+use Rattle.run_script.proofs.ToldBlocks.{all_open, alone_within, open_are, stop_told, stop_within}
 use Rattle.run_script.proofs.drawing.draw_all.Goals as goal
 
 pub loop-count-init : goal.loop-count-init
@@ -68,6 +68,13 @@ returns-in_default-clause-drawn g c =
     })
     c.loop-count.invariant.lost c.finish.ensures
 
+pub returns-in_default-clause-within : goal.returns-in_default-clause-within
+returns-in_default-clause-within g c =
+    finished_within g.C.Canvas c.args.is_verbose (shapes_among (with_places c.args.lines.now) c.args.shapes.now)
+    (at_first c.args.canvas.now (g.W.Write.contents c.args.writer.now) c.args.lines.now)
+    (line_limit c.args.lines.now) (length c.args.lines.now) c.loop-count.first (g.W.Write.contents c.loop-count.writer) c.loop-count.canvas c.finish.new.canvas None c.finish.result tt
+    c.loop-count.invariant.lost c.finish.ensures
+
 pub returns-in-Err-clause-drawn : goal.returns-in-Err-clause-drawn
 returns-in-Err-clause-drawn g c =
     let all : List (ℕ × (ℕ × List ℕ)) = with_places c.args.lines.now in
@@ -83,13 +90,14 @@ returns-in-Err-clause-drawn g c =
 
 pub returns-then-not-begin_line-clause-drawn : goal.returns-then-not-begin_line-clause-drawn
 returns-then-not-begin_line-clause-drawn g c =
-    let all : List (ℕ × (ℕ × List ℕ)) = with_places c.args.lines.now in
-    let shapes = shapes_among all c.args.shapes.now in
-    let start = at_first c.args.canvas.now (g.W.Write.contents c.args.writer.now) c.args.lines.now in
     let written = g.W.Write.contents c.loop-count.writer in
     let (below, quiet, stops) = c.loop-count.invariant.lost c.begin_line.new.self (c.if-not-begin_line.ensures.lost refl) in
-    subst (λ (s : Stop). IsStoppedAt g.C.Canvas c.args.is_verbose shapes start (line_limit c.args.lines.now) s c.begin_line.new.self written)
-    (sym c.lost_from.ensures) (stops written (Keeps-refl written))
+    stops written (Keeps-refl written) c.lost_from.result c.lost_from.ensures
+
+pub returns-then-not-begin_line-clause-within : goal.returns-then-not-begin_line-clause-within
+returns-then-not-begin_line-clause-within g c =
+    let (below, quiet, stops) = c.loop-count.invariant.lost c.begin_line.new.self (c.if-not-begin_line.ensures.lost refl) in
+    alone_within (length c.args.lines.now) c.loop-count.first 30 c.lost_from.result c.lost_from.ensures below
 
 pub returns-then-has_lost-clause-drawn : goal.returns-then-has_lost-clause-drawn
 returns-then-has_lost-clause-drawn g c =
@@ -105,11 +113,10 @@ returns-then-has_lost-clause-drawn g c =
     g.met.C.Canvas.begun g.met.C.Canvas.lost_settled g.met.C.Canvas.settled_again c.args.is_verbose shapes start
     (line_limit c.args.lines.now) (length c.args.lines.now) c.loop-count.first mid new c.begin_line.new.self c.in-Some-refusal.code begins advanced
     (sym c.has_lost.ensures ∙ c.if-has_lost.true) c.loop-count.invariant.lost in
-    subst (λ (s : Stop). IsStoppedAt g.C.Canvas c.args.is_verbose shapes start (line_limit c.args.lines.now) s new.sketch.canvas new.sketch.written)
-    (sym c.lost_from-then-has_lost.ensures) told.1
+    told.1 c.lost_from-then-has_lost.result c.lost_from-then-has_lost.ensures
 
-pub returns-then-has_lost-clause-place : goal.returns-then-has_lost-clause-place
-returns-then-has_lost-clause-place g c =
+pub returns-then-has_lost-clause-within : goal.returns-then-has_lost-clause-within
+returns-then-has_lost-clause-within g c =
     let all : List (ℕ × (ℕ × List ℕ)) = with_places c.args.lines.now in
     let shapes = shapes_among all c.args.shapes.now in
     let limit = limit_is c.args.lines.now in
@@ -122,7 +129,7 @@ returns-then-has_lost-clause-place g c =
     g.met.C.Canvas.begun g.met.C.Canvas.lost_settled g.met.C.Canvas.settled_again c.args.is_verbose shapes start
     (line_limit c.args.lines.now) (length c.args.lines.now) c.loop-count.first mid new c.begin_line.new.self c.in-Some-refusal.code begins advanced
     (sym c.has_lost.ensures ∙ c.if-has_lost.true) c.loop-count.invariant.lost in
-    subst (λ (s : Stop). s.place < length c.args.lines.now) (sym c.lost_from-then-has_lost.ensures) told.0
+    alone_within (length c.args.lines.now) c.loop-count.first 30 c.lost_from-then-has_lost.result c.lost_from-then-has_lost.ensures told.0
 
 pub returns-in-Some-refusal-clause-drawn : goal.returns-in-Some-refusal-clause-drawn
 returns-in-Some-refusal-clause-drawn g c =
@@ -141,22 +148,18 @@ returns-in-Some-refusal-clause-drawn g c =
     (line_limit c.args.lines.now) (length c.args.lines.now) c.loop-count._count c.loop-count.first c.in-Some.place mid new c.begin_line.new.self c.in-Ok.refusal
     c.loop-count.invariant.reached under c.in-Some.ensures.within c.in-Some.ensures.place begins c.in-Ok.ensures.advanced c.loop-count.invariant.lost) in
     let advanced = rw c.in-Some-refusal.is at c.in-Ok.ensures.advanced in
+    let told = rw c.in-Some-refusal.is at c.in-Ok.ensures.told in
+    let code = c.in-Some-refusal.code in
+    let stop = c.stop_at-stop.result in
     finished g.C.Canvas c.args.is_verbose shapes start (line_limit c.args.lines.now) (length c.args.lines.now) c.first_place-first.result new.sketch.written
-    c.advance.new.canvas c.finish-in-Some-refusal.new.canvas _ c.finish-in-Some-refusal.result
-    (λ settled. record {
-      count = c.loop-count._count;
-      before = mid;
-      after = new;
-      reached = c.loop-count.invariant.reached;
-      at_place = c.in-Some.ensures.place;
-      refused = inl (under, (c.begin_line.new.self, begins, advanced));
-      put = settled;
-      has = refl;
-    })
+    c.advance.new.canvas c.finish-in-Some-refusal.new.canvas (Some stop) c.finish-in-Some-refusal.result
+    (λ settled. stopped_there g.C.Canvas c.args.is_verbose shapes start (line_limit c.args.lines.now) c.loop-count._count c.in-Some.place code mid new _ stop
+    c.finish-in-Some-refusal.new.canvas new.sketch.written c.loop-count.invariant.reached c.in-Some.ensures.place (inl (under, (c.begin_line.new.self, begins, advanced)))
+    c.stop_at-stop.ensures (open_are all c.loop-count.reading c.advance.new.reading code told) settled refl)
     lost c.finish-in-Some-refusal.ensures
 
-pub returns-in-Some-refusal-clause-place : goal.returns-in-Some-refusal-clause-place
-returns-in-Some-refusal-clause-place g c =
+pub returns-in-Some-refusal-clause-within : goal.returns-in-Some-refusal-clause-within
+returns-in-Some-refusal-clause-within g c =
     let all : List (ℕ × (ℕ × List ℕ)) = with_places c.args.lines.now in
     let shapes = shapes_among all c.args.shapes.now in
     let limit = limit_is c.args.lines.now in
@@ -171,8 +174,16 @@ returns-in-Some-refusal-clause-place g c =
     g.met.C.Canvas.begun g.met.C.Canvas.lost_settled g.met.C.Canvas.settled_again c.args.is_verbose shapes start
     (line_limit c.args.lines.now) (length c.args.lines.now) c.loop-count._count c.loop-count.first c.in-Some.place mid new c.begin_line.new.self c.in-Ok.refusal
     c.loop-count.invariant.reached under c.in-Some.ensures.within c.in-Some.ensures.place begins c.in-Ok.ensures.advanced c.loop-count.invariant.lost) in
-    finished_place g.C.Canvas c.args.is_verbose shapes start (line_limit c.args.lines.now) (length c.args.lines.now) c.first_place-first.result new.sketch.written
-    c.advance.new.canvas c.finish-in-Some-refusal.new.canvas _ c.finish-in-Some-refusal.result c.in-Some.ensures.within lost c.finish-in-Some-refusal.ensures
+    let told = rw c.in-Some-refusal.is at c.in-Ok.ensures.told in
+    let code = c.in-Some-refusal.code in
+    let stop = c.stop_at-stop.result in
+    let are = open_are all c.loop-count.reading c.advance.new.reading code told in
+    finished_within g.C.Canvas c.args.is_verbose shapes start (line_limit c.args.lines.now) (length c.args.lines.now) c.first_place-first.result new.sketch.written
+    c.advance.new.canvas c.finish-in-Some-refusal.new.canvas (Some stop) c.finish-in-Some-refusal.result
+    (stop_within (length c.args.lines.now) c.in-Some.place code _ stop
+    (stop_told c.in-Some.place code _ _ stop c.stop_at-stop.ensures are) c.in-Some.ensures.within
+    (all_open (length c.args.lines.now) code all c.loop-count.reading c.loop-count.invariant.within))
+    lost c.finish-in-Some-refusal.ensures
 
 pub returns-in-None-clause-drawn : goal.returns-in-None-clause-drawn
 returns-in-None-clause-drawn g c =
@@ -194,23 +205,38 @@ returns-in-None-clause-drawn g c =
     })
     c.loop-count.invariant.lost c.finish-in-None.ensures
 
-pub returns-clause-drawn : goal.returns-clause-drawn
-returns-clause-drawn g c =
+pub returns-in-None-clause-within : goal.returns-in-None-clause-within
+returns-in-None-clause-within g c =
+    finished_within g.C.Canvas c.args.is_verbose (shapes_among (with_places c.args.lines.now) c.args.shapes.now)
+    (at_first c.args.canvas.now (g.W.Write.contents c.args.writer.now) c.args.lines.now)
+    (line_limit c.args.lines.now) (length c.args.lines.now) c.loop-count.first (g.W.Write.contents c.loop-count.writer) c.loop-count.canvas c.finish-in-None.new.canvas None
+    c.finish-in-None.result tt c.loop-count.invariant.lost c.finish-in-None.ensures
+
+pub returns-in-Some-place_at_hand-clause-drawn : goal.returns-in-Some-place_at_hand-clause-drawn
+returns-in-Some-place_at_hand-clause-drawn g c =
     let all : List (ℕ × (ℕ × List ℕ)) = with_places c.args.lines.now in
     let shapes = shapes_among all c.args.shapes.now in
     let limit = limit_is c.args.lines.now in
     let start = at_first c.args.canvas.now (g.W.Write.contents c.args.writer.now) c.args.lines.now in
     let mid = progress_of all c.loop-count.canvas (scope_of c.loop-count.names) (g.W.Write.contents c.loop-count.writer) c.loop-count.reading in
+    let stop = c.too_many_at.result in
+    let is = c.too_many_at.ensures c.args.lines.now c.loop-count.invariant.within in
     finished g.C.Canvas c.args.is_verbose shapes start (line_limit c.args.lines.now) (length c.args.lines.now) c.loop-count.first (g.W.Write.contents c.loop-count.writer)
-    c.loop-count.canvas c.finish-in-Some-place_at_hand.new.canvas _ c.finish-in-Some-place_at_hand.result
-    (λ settled. record {
-      count = c.loop-count._count;
-      before = mid;
-      after = mid;
-      reached = c.loop-count.invariant.reached;
-      at_place = subst (λ (p : ℕ). IsAtPlace mid.lines mid.turns p) (sym (ap (λ (s : Stop). s.place) c.too_many_at.ensures)) c.in-Some-place_at_hand.ensures.place;
-      refused = inr (omega (arith, limit, c.loop-count-test.false), ap (λ (s : Stop). s.code) c.too_many_at.ensures, refl);
-      put = settled;
-      has = refl;
-    })
+    c.loop-count.canvas c.finish-in-Some-place_at_hand.new.canvas (Some stop) c.finish-in-Some-place_at_hand.result
+    (λ settled. stopped_there g.C.Canvas c.args.is_verbose shapes start (line_limit c.args.lines.now) c.loop-count._count c.in-Some-place_at_hand.place 48 mid mid
+    (told_around all c.loop-count.reading) stop c.finish-in-Some-place_at_hand.new.canvas mid.sketch.written c.loop-count.invariant.reached c.in-Some-place_at_hand.ensures.place
+    (inr (omega (arith, limit, c.loop-count-test.false), refl, refl)) is refl settled refl)
+    c.loop-count.invariant.lost c.finish-in-Some-place_at_hand.ensures
+
+pub returns-in-Some-place_at_hand-clause-within : goal.returns-in-Some-place_at_hand-clause-within
+returns-in-Some-place_at_hand-clause-within g c =
+    let all : List (ℕ × (ℕ × List ℕ)) = with_places c.args.lines.now in
+    let stop = c.too_many_at.result in
+    let is = c.too_many_at.ensures c.args.lines.now c.loop-count.invariant.within in
+    finished_within g.C.Canvas c.args.is_verbose (shapes_among all c.args.shapes.now)
+    (at_first c.args.canvas.now (g.W.Write.contents c.args.writer.now) c.args.lines.now)
+    (line_limit c.args.lines.now) (length c.args.lines.now) c.loop-count.first (g.W.Write.contents c.loop-count.writer) c.loop-count.canvas
+    c.finish-in-Some-place_at_hand.new.canvas (Some stop) c.finish-in-Some-place_at_hand.result
+    (stop_within (length c.args.lines.now) c.in-Some-place_at_hand.place 48 (told_around all c.loop-count.reading) stop is c.in-Some-place_at_hand.ensures.within
+    (all_open (length c.args.lines.now) 48 all c.loop-count.reading c.loop-count.invariant.within))
     c.loop-count.invariant.lost c.finish-in-Some-place_at_hand.ensures

@@ -12,6 +12,7 @@ use Rattle.run_script.specs.Lines.{sketch_of}
 use Rattle.run_script.specs.Places.{turns_of}
 use Rattle.run_script.specs.ShapePlaces.{shape_among, shapes_among}
 use Rattle.run_script.proofs.Progressing.{any_ok, by_at, by_define, by_loop, by_shape, ended_next, met_block}
+use Rattle.run_script.proofs.ToldBlocks.{any_told}
 use Rattle.run_script.proofs.drawing.draw_next.Goals as goal
 
 pub returns-in-Some-clause-advanced : goal.returns-in-Some-clause-advanced
@@ -86,7 +87,10 @@ returns-in-Some-shape_called-clause-advanced g c =
 pub returns-clause-within : goal.returns-clause-within
 returns-clause-within g c =
     let within = c.requires.within in
-    any_ok c.draw_line.result (record { few = within.few; until = within.until; blocks = within.blocks })
+    any_ok c.draw_line.result (record { few = within.few; until = within.until; blocks = within.blocks; told = within.told })
+
+pub returns-clause-told : goal.returns-clause-told
+returns-clause-told g c = any_told c.draw_line.result c.args.reading.now.told.items (record { place = c.args.reading.now.place + 1; until = c.args.reading.now.until; blocks = c.args.reading.now.blocks; told = c.args.reading.now.told }) refl
 
 pub returns-clause-advanced : goal.returns-clause-advanced
 returns-clause-advanced g c =
@@ -100,5 +104,5 @@ returns-clause-advanced g c =
     let undrawn : shape_called (shapes_among all c.args.shapes.now) r.place (text_words x.1) ≡ None =
     sym (c.in_default-shape_called.ensures.called all) in
     ended_next g.C.Canvas c.args.is_verbose (shapes_among all c.args.shapes.now) lines x (sketch_of c.args.canvas.now (scope_of c.args.names.now) (g.W.Write.contents c.args.writer.now))
-    (sketch_of c.draw_line.new.canvas (scope_of c.draw_line.new.names) (g.W.Write.contents c.draw_line.new.writer)) c.draw_line.new.canvas r (record { place = r.place + 1; until = r.until; blocks = r.blocks }) c.draw_line.result
+    (sketch_of c.draw_line.new.canvas (scope_of c.draw_line.new.names) (g.W.Write.contents c.draw_line.new.writer)) c.draw_line.new.canvas r (record { place = r.place + 1; until = r.until; blocks = r.blocks; told = r.told }) c.draw_line.result
     c.line-line.ensures c.requires.some other neither not undrawn refl refl refl refl c.draw_line.ensures
