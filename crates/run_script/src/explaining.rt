@@ -51,8 +51,12 @@ fn reason_in(
     }
     let words = lines.line(0).text;
     if words == line {
-        let stop = Stop { place: 0, code };
-        return reason_of(alloc, maps, &Names::new(alloc), lines, stop);
+        let stop = Stop {
+            place: 0,
+            code,
+            open: Vec::new(alloc),
+        };
+        return reason_of(alloc, maps, &Names::new(alloc), lines, &stop);
     }
     only_words(alloc, words)
 }
