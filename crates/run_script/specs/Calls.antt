@@ -1,6 +1,6 @@
 -- Lines that define shapes, and lines that draw them (docs/COMMANDS.md, "Shapes that a script
 -- defines").
-use Rattle.std.specs.Prelude.{ℕ, ◌==◌, if◌then◌else◌, List, [], ◌∷◌, ◌++◌, length, Option, Some, None, Result, Ok, Err}
+use Rattle.std.specs.Prelude.{ℕ, nat_le, if◌then◌else◌, List, [], ◌∷◌, ◌++◌, length, Option, Some, None, Result, Ok, Err}
 use Rattle.map_tables.specs.Tables.{Tables}
 use Rattle.map_script.specs.Defines.{call_words, with_parameters}
 use Rattle.map_script.specs.Lines.{name_in}
@@ -42,7 +42,7 @@ abbrev pub after_drawing : Scope → ℕ → List (ℕ × (ℕ × List ℕ)) →
     → Result (List (List ℕ)) DrawError → Result Position DrawError
 after_drawing names place lines turns naming shape (Err e) = Err e
 after_drawing names place lines turns naming shape (Ok words) =
-    if length turns == 64 then Err OpenBlock
+    if nat_le 64 (length turns) then Err OpenBlock
     else Ok (in_shape names turns (turn_of_shape names place lines naming shape) shape.parameters
     words)
 

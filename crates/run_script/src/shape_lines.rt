@@ -145,7 +145,7 @@ pub fn open_shape<C: Canvas>(
         Ok(text) => text,
         Err(error) => return Some(error.code()),
     };
-    if reading.blocks.len() == DEEPEST {
+    if reading.blocks.len() >= DEEPEST {
         return Some(DrawError::OpenBlock.code());
     }
     let naming = match line_naming(alloc, map, defined_name(line)) {
