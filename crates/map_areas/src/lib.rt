@@ -6,7 +6,6 @@ mod area;
 mod border;
 mod bordered;
 mod changes;
-mod copying;
 mod crossing;
 mod cuts;
 mod drawing;

@@ -7,7 +7,6 @@ ghost use Rattle.map_areas.specs.Stays.{KeepsItems};
 ghost use Rattle.map_commands.specs.Step.{InRange};
 ghost use Rattle.map_commands.specs.declared.command.Command.TheVariants as command;
 
-use crate::copying::copy_of;
 use crate::error::AreaError;
 use crate::ranges::{is_edit, is_split};
 use lump_records::Line;
@@ -73,7 +72,7 @@ pub(crate) fn try_commands(alloc: Global, map: &Map, commands: &[Command]) -> Re
     ensures others { IfOk result (λ new. KeepsUnchanged commands.now map.now.tables new.tables) }
     ensures refused { IfErr result IsCommandRefusal }
 {
-    let mut copy = copy_of(alloc, map)?;
+    let mut copy = map.copy(alloc)?;
     for command in commands {
         try_command(&mut copy, command)?;
     }

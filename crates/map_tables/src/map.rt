@@ -15,7 +15,7 @@ mod things;
 mod vertex_table;
 mod vertices;
 
-ghost use Rattle.std.specs.Prelude.{◌≡◌, ◌<◌, ◌≤◌, MatchOption, IfSome, OnOk, IsOkUnless, IsErrOf, slice_get};
+ghost use Rattle.std.specs.Prelude.{◌≡◌, ◌<◌, ◌≤◌, MatchOption, IfOk, IfSome, OnOk, IsOkUnless, IsErrOf, slice_get};
 ghost use Rattle.map_tables.specs.Tables.{empty_tables, count_of, table_limit};
 ghost use Rattle.map_tables.specs.Edits.{with_name};
 ghost use Rattle.map_tables.specs.Ranges.{IsNamed, is_marker, IsVertex, IsSector, IsSide, IsLine, IsThing};
@@ -25,6 +25,7 @@ ghost use Rattle.map_tables.specs.Outcomes.{Covers, Spends, no_need, nothing};
 use crate::edit::Need;
 use crate::error::MapError;
 use crate::kind::Kind;
+use crate::map::draft::Draft;
 use crate::map::keyed_line::{KeyedLine, numbered_line};
 use crate::map::keyed_side::{KeyedSide, numbered_side};
 use crate::map::table::Table;
@@ -89,6 +90,16 @@ impl Map {
             lines: Table::new(alloc),
             things: Table::new(alloc),
         }
+    }
+
+    /// A copy of the map: its name and its items, under keys of their own.
+    pub fn copy(&self, alloc: Global) -> Result<Map, MapError>
+        ensures tables { IfOk result (λ copy. copy.tables ≡ self.now.tables) }
+        ensures memory { IsOkUnless result MapError.OutOfMemory }
+    {
+        let draft = Draft::of(alloc, self)?;
+        let copy = draft.to_map(alloc)?;
+        Ok(copy)
     }
 
     /// The map's name: that of the marker lump of its level.

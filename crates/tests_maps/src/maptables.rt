@@ -71,6 +71,23 @@ fn keys_stay_after_a_drop(rt: HostRuntime) -> Result<(), Fail> {
     Ok(())
 }
 
+// A copy has the records of its map, also where keys have gaps.
+#[test]
+fn copies_have_the_same_lumps(rt: HostRuntime) -> Result<(), Fail> {
+    for &(_, lines, drop) in THREE_OF_EACH {
+        let mut maps = drawn(rt.alloc(), lines)?;
+        draw(&mut maps, &[drop])?;
+        let map = maps.current();
+        let copy = map.copy(rt.alloc())?;
+        for &kind in KINDS {
+            let found = copy.lump(rt.alloc(), kind)?;
+            let wanted = map.lump(rt.alloc(), kind)?;
+            same(&rt, &found.as_slice(), &wanted.as_slice());
+        }
+    }
+    Ok(())
+}
+
 // Texts, and whether each is a name of a texture or flat, and whether it is a marker.
 const NAMES: &[(&[u8], bool, bool)] = &[
     (b"-", true, false),

@@ -11,11 +11,11 @@ use Rattle.map_areas.proofs.trial.try_commands.Goals as goal
 
 pub loop-command-init : goal.loop-command-init
 loop-command-init c = record {
-  taken = c.in_ok-copy.ensures;
+  taken = c.in_ok-copy.ensures.tables;
   stays =
-      subst (λ (t : Tables). KeepsItems c.args.map.now.tables t) (sym c.in_ok-copy.ensures) (keeps_same c.args.map.now.tables);
+      subst (λ (t : Tables). KeepsItems c.args.map.now.tables t) (sym c.in_ok-copy.ensures.tables) (keeps_same c.args.map.now.tables);
   others =
-      subst (λ (t : Tables). KeepsUnchanged [] c.args.map.now.tables t) (sym c.in_ok-copy.ensures) (others_none c.args.map.now.tables);
+      subst (λ (t : Tables). KeepsUnchanged [] c.args.map.now.tables t) (sym c.in_ok-copy.ensures.tables) (others_none c.args.map.now.tables);
 }
 
 pub loop-command-preserved : goal.loop-command-preserved
