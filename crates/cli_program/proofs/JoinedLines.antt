@@ -11,9 +11,9 @@ use Rattle.lump_text.specs.Shown.{shown_lines, shown_text}
 use Rattle.map_script.specs.Includes.{include_words, is_include, only_word}
 use Rattle.map_script.specs.Scripts.{script_lines}
 use Rattle.map_script.specs.Words.{text_words}
-use Rattle.run_script.specs.Canvases.{Drafted}
-use Rattle.run_script.specs.declared.error.ScriptError.{ScriptError}
-use Rattle.run_script.specs.declared.error.ScriptError.TheVariants as cut
+use Rattle.run_canvas.specs.Canvases.{Drafted}
+use Rattle.run_canvas.specs.declared.error.ScriptError.{ScriptError}
+use Rattle.run_canvas.specs.declared.error.ScriptError.TheVariants as cut
 use Rattle.run_edit.specs.declared.error.EditorError.TheVariants.{OutOfMemory}
 use Rattle.cli_refusals.specs.Statuses.{status_in}
 use Rattle.cli_refusals.specs.declared.refusal.Refusal.{Refusal}

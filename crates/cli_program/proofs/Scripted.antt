@@ -8,10 +8,10 @@ use Rattle.cli_print.specs.Reading.{ReadsAll}
 use Rattle.std.proofs.KnownBytes.{Keeps-refl, Keeps-trans}
 use Rattle.map_tables.specs.Projects.{MapsView, ProjectMaps, project_of}
 use Rattle.map_script.specs.Scripts.{script_lines}
-use Rattle.run_script.specs.Canvases.{Drafted, draft_canvas, draft_over, first_draft}
+use Rattle.run_canvas.specs.Canvases.{Drafted, draft_canvas, draft_over, first_draft}
 use Rattle.run_script.specs.Drawn.{IsScriptDrawn}
-use Rattle.run_script.specs.declared.drawing.Stop.{Stop}
-use Rattle.run_script.specs.declared.error.ScriptError.{ScriptError}
+use Rattle.map_blocks.specs.declared.stop.Stop.{Stop}
+use Rattle.run_canvas.specs.declared.error.ScriptError.{ScriptError}
 use Rattle.cli_program.specs.Drawing.{DrawsWhole, IsDrawnOnto, IsHeldBack, IsTriedOver, TellsStopFrom}
 use Rattle.cli_program.specs.DrawnInto.{EndsUnopened, IsReadAt, IsRefusedFor, IsUnreadAt, IsUnreadOf, OverLines, is_file}
 use Rattle.cli_program.specs.DrawnOver.{IsTriedOverDisk}
@@ -19,7 +19,7 @@ use Rattle.cli_program.specs.ScriptMaps.{IsReadDrawn, IsStoppedFrom, IsWithoutUn
 use Rattle.cli_program.specs.Including.{IsScriptJoined, IsUnjoined}
 use Rattle.cli_program.specs.SomeSource.{OverSome, OverSomeMaps, OverSource}
 use Rattle.cli_program.specs.Wads.{OverWad}
-use Rattle.run_script.specs.Lines.{OneOf}
+use Rattle.run_canvas.specs.Canvases.{OneOf}
 use Rattle.cli_program.proofs.JoinedLines.{stopped_before}
 use Rattle.cli_program.proofs.Scripts.{whole_end}
 use Rattle.cli_program.proofs.Sources.{of_opening, unread_of}

@@ -5,14 +5,15 @@ use Rattle.cli_words.specs.declared.asked.Request.TheVariants.{Scratch, Create, 
 use Rattle.cli_refusals.specs.Statuses.{status_in}
 use Rattle.cli_refusals.specs.declared.refusal.Refusal.{Refusal}
 use Rattle.run_script.specs.Drawn.{IsScriptDrawn}
-use Rattle.run_script.specs.declared.canvas.Canvas as canvas
-use Rattle.run_script.specs.declared.drawing.Stop.{Stop}
-use Rattle.run_script.specs.declared.error.ScriptError.{ScriptError}
-use Rattle.run_script.specs.declared.error.ScriptError.TheVariants as cut
+use Rattle.run_canvas.specs.declared.canvas.Canvas as canvas
+use Rattle.map_blocks.specs.declared.stop.Stop.{Stop}
+use Rattle.run_canvas.specs.declared.error.ScriptError.{ScriptError}
+use Rattle.run_canvas.specs.declared.error.ScriptError.TheVariants as cut
 use Rattle.cli_program.specs.Kinds.{IsQuiet}
 use Rattle.std.proofs.lemmas.Option.{slice_get-get_or}
 use Rattle.std.specs.Prelude.{IfOk, IfSome, slice_get}
-use Rattle.run_script.specs.Refused.{IsStopWithin, blocks_text}
+use Rattle.run_reasons.specs.Refused.{blocks_text}
+use Rattle.map_blocks.specs.Stops.{IsStopWithin}
 use Rattle.store_disk.specs.declared.disk.Disk.{Ghosts}
 use Rattle.cli_program.specs.Drawing.{IsHandedOn, IsStopTold, TellsRefused, TellsStopFrom}
 use Rattle.cli_program.specs.DrawnInto.{IsDrawnInto, IsScriptTried, IsTriedOntoSome}

@@ -18,7 +18,7 @@ use Rattle.cli_program.specs.Sources.{IsBuiltFrom}
 use Rattle.cli_program.specs.DrawnInto.{is_file}
 use Rattle.cli_program.proofs.JoinedLines.{ends_apart}
 use Rattle.map_script.specs.Scripts.{script_lines}
-use Rattle.run_script.specs.Lines.{OneOf}
+use Rattle.run_canvas.specs.Canvases.{OneOf}
 use Rattle.cli_program.specs.Deeds.{IsPerformed}
 use Rattle.cli_program.specs.Kinds.{IsQuiet}
 use Rattle.cli_program.specs.Notes.{TellsNotes}

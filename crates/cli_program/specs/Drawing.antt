@@ -1,13 +1,13 @@
 -- What the request `draw` does (docs/COMMANDS.md, "Scripts").
 use Rattle.std.specs.Prelude.{◌≡◌, ◌⊎◌, ℕ, Bool, false, List, [], Option, Some, None, Result, Ok, Err, slice_get}
 use Rattle.std.specs.Io.KnownBytes.{Keeps}
-use Rattle.run_script.specs.Canvases.{Drafted, draft_canvas, first_draft}
+use Rattle.run_canvas.specs.Canvases.{Drafted, draft_canvas, first_draft}
 use Rattle.run_script.specs.Drawn.{IsScriptDrawn}
-use Rattle.run_script.specs.Refused.{TellsStop, blocks_text}
-use Rattle.run_script.specs.declared.canvas.Canvas as canvas
-use Rattle.run_script.specs.declared.drawing.Stop.{Stop}
-use Rattle.run_script.specs.declared.error.ScriptError.{ScriptError}
-use Rattle.run_script.specs.declared.error.ScriptError.TheVariants as cut
+use Rattle.run_reasons.specs.Refused.{TellsStop, blocks_text}
+use Rattle.run_canvas.specs.declared.canvas.Canvas as canvas
+use Rattle.map_blocks.specs.declared.stop.Stop.{Stop}
+use Rattle.run_canvas.specs.declared.error.ScriptError.{ScriptError}
+use Rattle.run_canvas.specs.declared.error.ScriptError.TheVariants as cut
 use Rattle.run_edit.specs.declared.error.EditorError.TheVariants.{OutOfMemory, WriterFailed}
 use Rattle.cli_program.specs.Including.{ShowsTold}
 use Rattle.cli_refusals.specs.declared.refusal.Refusal.{Refusal}

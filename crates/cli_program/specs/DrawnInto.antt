@@ -6,8 +6,8 @@ use Rattle.store_disk.specs.declared.disk.Disk.{Ghosts}
 use Rattle.store_project.specs.States.{State}
 use Rattle.store_project.specs.declared.error.ProjectError.{ProjectError}
 use Rattle.map_script.specs.Scripts.{script_lines}
-use Rattle.run_script.specs.Canvases.{Drafted, draft_over, project_canvas}
-use Rattle.run_script.specs.Waiting.{Drawing, first_drawing}
+use Rattle.run_canvas.specs.Canvases.{Drafted, draft_over, project_canvas}
+use Rattle.run_canvas.specs.Waiting.{Drawing, first_drawing}
 use Rattle.run_edit.specs.declared.error.EditorError.{EditorError}
 use Rattle.cli_refusals.specs.Refusals.{EndsReading, IsOfOpening}
 use Rattle.cli_refusals.specs.declared.refusal.Refusal.{Refusal}

@@ -3,7 +3,7 @@ use Rattle.std.specs.Prelude.{◌≡◌, ◌⊎◌, ℕ, Bool, List, Option, Res
 use Rattle.std.specs.Io.KnownBytes.{Keeps}
 use Rattle.store_disk.specs.declared.disk.Disk.{Ghosts}
 use Rattle.store_project.specs.States.{State}
-use Rattle.run_script.specs.Canvases.{draft_over}
+use Rattle.run_canvas.specs.Canvases.{draft_over}
 use Rattle.run_edit.specs.Recovery.{IsOnlyRead}
 use Rattle.cli_program.specs.Drawing.{IsTriedOver}
 use Rattle.cli_program.specs.DrawnInto.{IsDrawnOrLeft}

@@ -7,10 +7,10 @@ use Rattle.lump_text.specs.Shown.{shown_lines, shown_text}
 use Rattle.map_script.specs.Includes.{include_words, only_word}
 use Rattle.map_script.specs.Scripts.{script_lines}
 use Rattle.map_script.specs.Words.{text_words}
-use Rattle.run_script.specs.Names.{stop_name}
-use Rattle.run_script.specs.Refused.{line_place, refusal_text}
-use Rattle.run_script.specs.declared.error.ScriptError.{ScriptError}
-use Rattle.run_script.specs.declared.error.ScriptError.TheVariants as cut
+use Rattle.run_reasons.specs.Names.{stop_name}
+use Rattle.run_reasons.specs.Refused.{line_place, refusal_text}
+use Rattle.run_canvas.specs.declared.error.ScriptError.{ScriptError}
+use Rattle.run_canvas.specs.declared.error.ScriptError.TheVariants as cut
 use Rattle.run_edit.specs.declared.error.EditorError.TheVariants.{OutOfMemory}
 use Rattle.cli_refusals.specs.declared.refusal.Refusal.{Refusal}
 use Rattle.cli_refusals.specs.declared.refusal.Refusal.TheVariants as of

@@ -8,8 +8,8 @@ use Rattle.map_tables.specs.declared.kind.Kind.TheVariants.{Vertex, Sector, Side
 use Rattle.map_script.specs.Scripts.{script_lines}
 use Rattle.run_edit.specs.declared.error.EditorError.TheVariants.{OutOfMemory}
 use Rattle.store_project.specs.declared.error.ProjectError.TheVariants.{NotAProject}
-use Rattle.run_script.specs.Canvases.{ChangesDraft, Drafted, draft_canvas, first_draft}
-use Rattle.run_script.specs.Lines.{OneOf}
+use Rattle.run_canvas.specs.Canvases.{ChangesDraft, Drafted, draft_canvas, first_draft}
+use Rattle.run_canvas.specs.Canvases.{OneOf}
 use Rattle.cli_print.specs.Picturing.{is_called}
 use Rattle.cli_print.specs.Reading.{ReadsAll}
 use Rattle.cli_program.specs.Drawing.{DrawsWhole, TellsStopFrom}

@@ -4,7 +4,7 @@ use Rattle.std.specs.Prelude.{◌⊎◌, ℕ, Option, Result, List}
 use Rattle.std.specs.Io.KnownBytes.{Keeps}
 use Rattle.map_tables.specs.Projects.{MapsView}
 use Rattle.cli_refusals.specs.declared.refusal.Refusal.{Refusal}
-use Rattle.run_script.specs.Lines.{OneOf}
+use Rattle.run_canvas.specs.Canvases.{OneOf}
 use Rattle.cli_program.specs.DrawnInto.{EndsUnopened, EndsUnread, is_file}
 use Rattle.cli_program.specs.ScriptMaps.{OverScript, OverSomeScript}
 

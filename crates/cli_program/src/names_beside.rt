@@ -10,7 +10,7 @@ use cli_words::Request;
 use lump_records::Name8;
 use lump_text::write_shown;
 use map_tables::Maps;
-use run_script::{Canvas, Draft};
+use run_canvas::{Canvas, Draft};
 use std::alloc::Global;
 use std::io::{self, Write};
 use std::os::unix::fs::FileExt;

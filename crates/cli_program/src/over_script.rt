@@ -15,7 +15,7 @@ use cli_dump::tell_lines_of;
 use cli_files::{Cause, Hold};
 use cli_print::{Choice, Wanted, draw, tell_beside, tell_findings};
 use cli_refusals::{Causes, Refusal};
-use run_script::{Canvas, Draft};
+use run_canvas::{Canvas, Draft};
 use std::fs::Files;
 use std::io::{Read, Write};
 

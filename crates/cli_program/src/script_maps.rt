@@ -4,7 +4,7 @@ ghost use Rattle.store_project.specs.declared.error.ProjectError.TheVariants.{No
 ghost use Rattle.run_edit.specs.declared.error.EditorError.TheVariants.{ReaderFailed};
 ghost use Rattle.cli_refusals.specs.declared.refusal.Refusal.TheVariants.{Lines, Project};
 ghost use Rattle.map_tables.specs.Projects.{project_of};
-ghost use Rattle.run_script.specs.Canvases.{first_draft};
+ghost use Rattle.run_canvas.specs.Canvases.{first_draft};
 ghost use Rattle.cli_program.specs.ScriptMaps.{IsReadDrawn, IsWithoutUntouched, NotReadDrawn, begins_untouched, is_untouched, item_count};
 
 use crate::draw_request::draw_whole;
@@ -12,8 +12,8 @@ use crate::script_file::read_joined;
 use cli_files::Cause;
 use cli_refusals::Refusal;
 use map_tables::{Kind, Map, Maps};
+use run_canvas::{Canvas, Draft};
 use run_edit::EditorError;
-use run_script::{Canvas, Draft};
 use std::fs::Files;
 use std::io::{Read, Write};
 use store_project::ProjectError;

@@ -10,7 +10,7 @@ ghost use Rattle.cli_program.specs.Typed.{RepliesTyped, Typed, asks_help, quits}
 use lump_text::write_shown_lines;
 use map_tables::Maps;
 use run_edit::{EditorError, InputLine, Spoken, read_retrying};
-use run_script::{explain, help_text};
+use run_reasons::{explain, help_text};
 use std::alloc::Global;
 use std::io::{Read, Write};
 

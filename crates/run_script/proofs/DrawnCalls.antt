@@ -13,14 +13,14 @@ use Rattle.store_project.specs.declared.error.ProjectError.{ProjectError}
 use Rattle.store_project.specs.declared.error.ProjectError.TheVariants.{Device}
 use Rattle.run_edit.specs.Composing.{go_behind}
 use Rattle.run_edit.proofs.DeedCalls.{go_parted}
-use Rattle.run_script.specs.Canvases.{TellsBehind, project_canvas}
-use Rattle.run_script.specs.LossLaws.{no_group}
-use Rattle.run_script.specs.PutLaws.{settled_same}
-use Rattle.run_script.specs.Waiting.{AreWaiting, BeginsLine, ChangesProject, Drawing, Loses, Settles, Stages, first_drawing}
+use Rattle.run_canvas.specs.Canvases.{TellsBehind, project_canvas}
+use Rattle.run_canvas.specs.LossLaws.{no_group}
+use Rattle.run_canvas.specs.PutLaws.{settled_same}
+use Rattle.run_canvas.specs.Waiting.{AreWaiting, BeginsLine, ChangesProject, Drawing, Loses, Settles, Stages, first_drawing}
 use Rattle.run_script.specs.Drawn.{IsScriptDrawn}
 use Rattle.run_script.specs.Stopped.{HoldsAtMoments, session_of}
-use Rattle.run_script.specs.declared.drawing.Stop.{Stop}
-use Rattle.run_script.specs.declared.error.ScriptError.{ScriptError}
+use Rattle.map_blocks.specs.declared.stop.Stop.{Stop}
+use Rattle.run_canvas.specs.declared.error.ScriptError.{ScriptError}
 use Rattle.run_script.proofs.Keeping.{AreKept, drawn_keeps}
 
 -- these calls led to the drawing's project, and these commands wait

@@ -4,14 +4,14 @@ use Rattle.std.specs.Prelude.{IfSome, MatchOption, if◌then◌else◌, suc}
 use Rattle.std.specs.Io.KnownBytes.{Keeps}
 use Rattle.std.proofs.KnownBytes.{Keeps-refl, Keeps-trans}
 use Rattle.std.proofs.lemmas.Bool.{true≢false}
-use Rattle.run_script.specs.Canvases.{NothingWaits}
-use Rattle.run_script.specs.Defined.{Shape}
+use Rattle.run_canvas.specs.Canvases.{NothingWaits}
+use Rattle.map_blocks.specs.Defined.{Shape}
 use Rattle.run_script.specs.Drawn.{Advances, ComesTo, EndsFrom, IsAtPlace, IsCutOff, IsStoppedAt, Progress, Refuses, on_canvas}
 use Rattle.run_script.specs.Opened.{open_blocks}
-use Rattle.run_script.specs.Refused.{IsStop, IsStopWithin}
-use Rattle.run_script.specs.declared.drawing.OpenBlock.{OpenBlock}
-use Rattle.run_script.specs.declared.drawing.Stop.{Stop}
-use Rattle.run_script.specs.declared.canvas.Canvas.{Ghosts}
+use Rattle.map_blocks.specs.Stops.{IsStop, IsStopWithin}
+use Rattle.map_blocks.specs.declared.stop.OpenBlock.{OpenBlock}
+use Rattle.map_blocks.specs.declared.stop.Stop.{Stop}
+use Rattle.run_canvas.specs.declared.canvas.Canvas.{Ghosts}
 use Rattle.run_script.proofs.Losing.{Alone, LossTold, Lost, LostIn, Since, StepOf, ToldAll, Within, advance_in, advance_lost}
 use Rattle.run_script.proofs.ToldBlocks.{alone_within}
 

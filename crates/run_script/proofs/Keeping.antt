@@ -8,16 +8,17 @@ use Rattle.map_script.specs.Words.{text_words}
 use Rattle.map_script.specs.declared.error.DrawError.{DrawError}
 use Rattle.map_shapes.specs.Shapes.{is_shape_line}
 use Rattle.map_tables.specs.Projects.{current_map}
-use Rattle.run_script.specs.Blocks.{order_fault, with_places}
-use Rattle.run_script.specs.Defined.{Shape, shapes_in}
+use Rattle.map_blocks.specs.Blocks.{order_fault, with_places}
+use Rattle.map_blocks.specs.Defined.{Shape, shapes_in}
 use Rattle.run_script.specs.Drawn.{AdvancesOver, ComesTo, DrawsNext, EndsFrom, IsScriptDrawn, Progress, Refuses, Steps, at_first, at_position, line_limit, on_canvas, opened_by}
-use Rattle.run_script.specs.Lines.{DrawsLet, DrawsOther, DrawsText, IsQueryTold, IsTried, OneOf, Sketch, Stays, asks}
+use Rattle.run_script.specs.Lines.{DrawsLet, DrawsOther, DrawsText, IsQueryTold, IsTried, Sketch, Stays, asks}
+use Rattle.run_canvas.specs.Canvases.{OneOf}
 use Rattle.run_script.specs.Orders.{IsOutOfOrder}
 use Rattle.run_script.specs.Shaped.{DoesAll, DrawsShape, command_line}
 use Rattle.run_script.specs.Turns.{OpensBlock, Position}
-use Rattle.run_script.specs.declared.canvas.Canvas.{Ghosts}
-use Rattle.run_script.specs.declared.drawing.Stop.{Stop}
-use Rattle.run_script.specs.declared.error.ScriptError.{ScriptError}
+use Rattle.run_canvas.specs.declared.canvas.Canvas.{Ghosts}
+use Rattle.map_blocks.specs.declared.stop.Stop.{Stop}
+use Rattle.run_canvas.specs.declared.error.ScriptError.{ScriptError}
 
 -- each call keeps it
 pub record AreKept {S : Type 0} (facts : Ghosts S) (P : S → Type 0) : Type 0 where

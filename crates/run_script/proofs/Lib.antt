@@ -1,13 +1,11 @@
+pub mod AtHand
 pub mod Currents
-pub mod Defining
 pub mod DrawnCalls
 pub mod Grouped
 pub mod Keeping
 pub mod LineEnds
 pub mod Losing
-pub mod PlacedLines
 pub mod Positions
 pub mod Progressing
-pub mod Putting
 pub mod ShapeSteps
 pub mod ToldBlocks

@@ -13,9 +13,9 @@ use Rattle.map_script.specs.declared.error.DrawError.{DrawError}
 use Rattle.map_script.specs.declared.error.DrawError.TheVariants.{NotALet, NotALoop, NotAnAt, NotADefine, NotItsWords, OutsideMap, NotAQuarter, NotAName, NotAReference, UnknownName, NothingAdded, NumberTooLarge, NothingThere, NotANumber, NotWhole, TooGreat, TooDeep, OpenBlock, TooManyLines, OutOfMemory}
 use Rattle.run_script.specs.Lines.{Added, Does, DrawsLet, DrawsLine, DrawsOther, DrawsText, IsTried, Sketch, Stays, asks, sketch_of}
 use Rattle.run_script.specs.Given.{GivesWords, noted_text, with_given_name}
-use Rattle.run_script.specs.declared.canvas.Canvas.{Ghosts}
-use Rattle.run_script.specs.declared.error.ScriptError.{ScriptError}
-use Rattle.run_script.specs.declared.error.ScriptError.TheVariants as cut
+use Rattle.run_canvas.specs.declared.canvas.Canvas.{Ghosts}
+use Rattle.run_canvas.specs.declared.error.ScriptError.{ScriptError}
+use Rattle.run_canvas.specs.declared.error.ScriptError.TheVariants as cut
 
 -- what would be written
 pub Appends-known : (w : Option (List ℕ)) (bs : List ℕ) → Appends w (append_known w bs) bs

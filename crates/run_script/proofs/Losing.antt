@@ -11,13 +11,14 @@ use Rattle.map_script.specs.Words.{text_words}
 use Rattle.map_script.specs.declared.error.DrawError.{DrawError}
 use Rattle.map_shapes.specs.Shapes.{is_shape_line}
 use Rattle.map_tables.specs.Projects.{current_map}
-use Rattle.run_script.specs.Defined.{Shape}
+use Rattle.map_blocks.specs.Defined.{Shape}
 use Rattle.run_script.specs.Drawn.{Advances, AdvancesOver, DrawsNext, Progress, at_position, opened_by}
 use Rattle.run_script.specs.Given.{GivesWords}
-use Rattle.run_script.specs.Lines.{Does, DrawsLet, DrawsLine, DrawsOther, DrawsText, IsQueryTold, IsTried, OneOf, Sketch, Stays, asks, sketch_of}
+use Rattle.run_script.specs.Lines.{Does, DrawsLet, DrawsLine, DrawsOther, DrawsText, IsQueryTold, IsTried, Sketch, Stays, asks, sketch_of}
+use Rattle.run_canvas.specs.Canvases.{OneOf}
 use Rattle.run_script.specs.Shaped.{DoesAll, DrawsShape, StopsAmong, command_line}
 use Rattle.run_script.specs.Turns.{EndsTurn, OpensBlock, Position}
-use Rattle.run_script.specs.declared.canvas.Canvas.{Ghosts}
+use Rattle.run_canvas.specs.declared.canvas.Canvas.{Ghosts}
 
 err_some : (n : ℕ) → ◌≡◌ {A = Option ℕ} None (Some n) → ⊥
 err_some n is = cc

@@ -10,13 +10,13 @@ use Rattle.map_script.specs.declared.error.DrawError.{DrawError}
 use Rattle.map_script.specs.declared.error.DrawError.TheVariants.{OutOfMemory}
 use Rattle.map_script.specs.declared.looping.Range.{Range}
 use Rattle.map_script.specs.declared.placing.Placing.{Placing}
-use Rattle.run_script.specs.Blocks.{behind_block, lines_between, block_len, block_lines}
+use Rattle.map_blocks.specs.Blocks.{behind_block, lines_between, block_len, block_lines}
 use Rattle.run_script.specs.Turns.{Counting, EndsTurn, OpensBlock, Position, Turn, after_at, after_count, after_loop, after_names, after_turn, counted_names, first_count, in_turn, next_count, turn_at, with_naming}
 use Rattle.run_script.specs.Places.{AreBlocksTold, Enters, IsBlockWithin, IsNextBlock, IsWithinLines, counting_of, naming_in, position_of, turn_of, turns_of}
 use Rattle.run_script.specs.declared.reading.Block.{Block}
 use Rattle.run_script.specs.declared.reading.Count.{Count}
 use Rattle.run_script.specs.declared.reading.Reading.{Reading}
-use Rattle.run_script.proofs.PlacedLines.{behind_is, body_is}
+use Rattle.map_blocks.proofs.PlacedLines.{behind_is, body_is}
 
 -- one turn more
 pub turns_more : (all : List (ℕ × (ℕ × List ℕ))) (bs outer : List Block) (b : Block) → bs ≡ outer ++ b ∷ []

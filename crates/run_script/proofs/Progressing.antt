@@ -13,18 +13,18 @@ use Rattle.map_script.specs.Scopes.{Scope, first_scope}
 use Rattle.map_script.specs.declared.error.DrawError.{DrawError}
 use Rattle.map_script.specs.Words.{text_words}
 use Rattle.map_script.specs.declared.names.Names.{Names}
-use Rattle.run_script.specs.Blocks.{lines_between, with_places}
-use Rattle.run_script.specs.Defined.{Shape, shape_called}
+use Rattle.map_blocks.specs.Blocks.{lines_between, with_places}
+use Rattle.map_blocks.specs.Defined.{Shape, shape_called}
 use Rattle.run_script.specs.Drawn.{Advances, AdvancesOver, ComesTo, DrawsNext, Progress, Steps, at_first, at_position, opened_by}
 use Rattle.run_script.specs.Lines.{DrawsLine, Sketch, sketch_of}
 use Rattle.run_script.specs.Turns.{EndsTurn, OpensBlock, Position, Turn, after_at, after_drawing, after_define, after_loop, after_naming, after_opening, after_words, line_naming}
 use Rattle.run_script.specs.Places.{AdvancesTo, IsBlockWithin, IsFirstReading, IsWithinLines, position_of, progress_of, told_block, turns_of}
-use Rattle.run_script.specs.declared.canvas.Canvas.{Ghosts}
-use Rattle.run_script.specs.declared.error.ScriptError.{ScriptError}
-use Rattle.run_script.specs.declared.error.ScriptError.TheVariants as cut
+use Rattle.run_canvas.specs.declared.canvas.Canvas.{Ghosts}
+use Rattle.run_canvas.specs.declared.error.ScriptError.{ScriptError}
+use Rattle.run_canvas.specs.declared.error.ScriptError.TheVariants as cut
 use Rattle.run_script.specs.declared.reading.Block.{Block}
 use Rattle.run_script.specs.declared.reading.Reading.{Reading}
-use Rattle.run_script.proofs.PlacedLines.{all_between, next_line, none_left}
+use Rattle.map_blocks.proofs.PlacedLines.{all_between, next_line, none_left}
 
 -- what holds anyway
 pub any_ok : {E : Type 0} (result : Result (Option ℕ) E) {P : Type 0} → P → IfOk result (λ refusal. IfNone refusal P)

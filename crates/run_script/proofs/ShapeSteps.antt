@@ -3,7 +3,7 @@ use Rattle.std.proofs.Common.{◌≡◌, ℕ, ◌+◌, ◌<◌, List, [], ◌∷
 use Rattle.std.proofs.lemmas.List.{take_more, take-append-drop}
 use Rattle.map_commands.specs.declared.command.Command.{Command}
 use Rattle.run_script.specs.Shaped.{DoesAll, command_line}
-use Rattle.run_script.specs.declared.canvas.Canvas.{Ghosts}
+use Rattle.run_canvas.specs.declared.canvas.Canvas.{Ghosts}
 
 DoesAll-more : {S : Type 0} (facts : Ghosts S) (cs : List Command) (c : Command) (old mid new : S) (n : ℕ)
     → DoesAll facts cs old mid → facts.changes mid (command_line c) (Ok n) new → DoesAll facts (cs ++ c ∷ []) old new

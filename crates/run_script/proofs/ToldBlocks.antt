@@ -6,17 +6,17 @@ use Rattle.std.proofs.KnownBytes.{Appends-trans}
 use Rattle.std.proofs.lemmas.List.{get_or-reverse, length-map, length-reverse, length_push, map-append, take-map, take_at, take_more}
 use Rattle.std.proofs.lemmas.List.Concat.{flat_map-append}
 use Rattle.std.proofs.lemmas.List.Elements.{All-map, All-nil, All-take, All-weaker}
-use Rattle.run_script.specs.Blocks.{lines_between, with_places}
+use Rattle.map_blocks.specs.Blocks.{lines_between, with_places}
 use Rattle.run_script.specs.Opened.{open_blocks, told_turn, turns_around}
 use Rattle.run_script.specs.Places.{AreBlocksTold, IsBlockWithin, IsToldBehind, IsWithinLines, told_around, told_block, turn_of, turns_of}
-use Rattle.run_script.specs.Refused.{IsStop, IsStopWithin}
+use Rattle.map_blocks.specs.Stops.{IsStop, IsStopWithin}
 use Rattle.run_script.specs.Turns.{Turn}
-use Rattle.run_script.specs.declared.drawing.OpenBlock.{OpenBlock}
-use Rattle.run_script.specs.declared.drawing.Stop.{Stop}
-use Rattle.run_script.specs.declared.error.ScriptError.{ScriptError}
+use Rattle.map_blocks.specs.declared.stop.OpenBlock.{OpenBlock}
+use Rattle.map_blocks.specs.declared.stop.Stop.{Stop}
+use Rattle.run_canvas.specs.declared.error.ScriptError.{ScriptError}
 use Rattle.run_script.specs.declared.reading.Block.{Block}
 use Rattle.run_script.specs.declared.reading.Reading.{Reading}
-use Rattle.run_script.proofs.PlacedLines.{line_at, next_line, none_left}
+use Rattle.map_blocks.proofs.PlacedLines.{line_at, next_line, none_left}
 
 -- ---- Blocks that are entered and left
 
@@ -133,15 +133,3 @@ pub alone_within : (count line code : ℕ) (stop : Stop) → IsStop line code []
 alone_within count line code stop is below = stop_within count line code [] stop is below (All-nil (λ (b : OpenBlock). b.place < count))
 
 -- ---- Their lines
-
--- one block more was written about, from the innermost on
-pub block_more : (f : OpenBlock → List ℕ) (bs : List OpenBlock) (i : ℕ) (d b : OpenBlock) (u v w : Option (List ℕ)) → i < length bs → b ≡ get_or bs (length bs - 1 - i) d
-    → Appends u v (flat_map f (take i (reverse bs))) → Appends v w (f b) → Appends u w (flat_map f (take (i + 1) (reverse bs)))
-block_more f bs i d b u v w below is before next =
-    let inside : i < length (reverse bs) = omega (arith, below, length-reverse bs) in
-    let here : get_or (reverse bs) i d ≡ b = get_or-reverse bs i d below ∙ sym is in
-    let front : List ℕ = flat_map f (take i (reverse bs)) in
-    let more : flat_map f (take (i + 1) (reverse bs)) ≡ front ++ f b =
-    ap (flat_map f) (take_more (reverse bs) i d inside) ∙ flat_map-append f (take i (reverse bs)) (get_or (reverse bs) i d ∷ [])
-    ∙ ap (λ (t : List ℕ). front ++ t) (append-nil (f (get_or (reverse bs) i d)) ∙ ap f here) in
-    subst (λ (t : List ℕ). Appends u w t) (sym more) (Appends-trans u v w front (f b) before next)

@@ -7,8 +7,8 @@ use Rattle.map_script.specs.Lines.{name_in}
 use Rattle.map_script.specs.Scopes.{Scope, mark_of, with_block, with_shape}
 use Rattle.map_script.specs.declared.error.DrawError.{DrawError}
 use Rattle.map_script.specs.declared.error.DrawError.TheVariants.{OpenBlock}
-use Rattle.run_script.specs.Blocks.{behind_block}
-use Rattle.run_script.specs.Defined.{Shape}
+use Rattle.map_blocks.specs.Blocks.{behind_block}
+use Rattle.map_blocks.specs.Defined.{Shape}
 use Rattle.run_script.specs.Opened.{Naming, Position, Turn, line_naming}
 
 -- behind the line of a `define`, before these lines: behind its block

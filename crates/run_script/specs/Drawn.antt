@@ -1,16 +1,16 @@
 -- What a script draws, line by line and turn by turn (docs/COMMANDS.md, "Scripts").
 use Rattle.std.specs.Prelude.{◌≡◌, ◌⊎◌, ℕ, zero, suc, ◌+◌, ◌<◌, ◌≤◌, Bool, List, [], ◌∷◌, ◌++◌, Option, Some, None, Result, Ok, Err, MatchOption, length}
 use Rattle.map_script.specs.Scopes.{first_scope}
-use Rattle.run_script.specs.Blocks.{order_fault, with_places}
-use Rattle.run_script.specs.Defined.{Shape, shapes_in}
+use Rattle.map_blocks.specs.Blocks.{order_fault, with_places}
+use Rattle.map_blocks.specs.Defined.{Shape, shapes_in}
 use Rattle.run_script.specs.Lines.{sketch_of}
 use Rattle.run_script.specs.Opened.{Turn, open_blocks}
 use Rattle.run_script.specs.Orders.{IsOutOfOrder}
 pub use Rattle.run_script.specs.Progress.{Advances, AdvancesOver, DrawsNext, Progress, Steps, at_position, on_canvas, opened_by}
-use Rattle.run_script.specs.declared.canvas.Canvas.{Ghosts}
-use Rattle.run_script.specs.declared.drawing.Stop.{Stop}
-use Rattle.run_script.specs.declared.error.ScriptError.{ScriptError}
-use Rattle.run_script.specs.declared.error.ScriptError.TheVariants.{OutOfMemory, WriterFailed}
+use Rattle.run_canvas.specs.declared.canvas.Canvas.{Ghosts}
+use Rattle.map_blocks.specs.declared.stop.Stop.{Stop}
+use Rattle.run_canvas.specs.declared.error.ScriptError.{ScriptError}
+use Rattle.run_canvas.specs.declared.error.ScriptError.TheVariants.{OutOfMemory, WriterFailed}
 
 -- ---- A script
 

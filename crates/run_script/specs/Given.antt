@@ -10,7 +10,7 @@ use Rattle.map_script.specs.Meant.{numbered}
 use Rattle.map_script.specs.Scopes.{Scope, with_answer, with_given}
 use Rattle.map_script.specs.declared.firsts.Firsts.{Firsts}
 use Rattle.map_script.specs.declared.firsts.Numbers.{Numbers}
-use Rattle.run_script.specs.declared.canvas.Canvas.{Ghosts}
+use Rattle.run_canvas.specs.declared.canvas.Canvas.{Ghosts}
 
 -- if a line is a command, these are the first items that it adds to the maps
 abbrev pub AddsFirst : List ℕ → ProjectMaps → Firsts → Type 0

@@ -10,9 +10,10 @@ use Rattle.map_script.specs.Words.{text_words}
 use Rattle.map_script.specs.declared.firsts.Firsts.{Firsts}
 use Rattle.map_script.specs.declared.firsts.Numbers.{Numbers}
 use Rattle.map_shapes.specs.Shapes.{is_shape_line}
+use Rattle.run_canvas.specs.Canvases.{OneOf}
 use Rattle.run_script.specs.Given.{AddsFirst, GivesWords, noted_text, with_given_name}
 use Rattle.run_script.specs.Shaped.{DrawsShape}
-use Rattle.run_script.specs.declared.canvas.Canvas.{Ghosts}
+use Rattle.run_canvas.specs.declared.canvas.Canvas.{Ghosts}
 
 -- the state while a script is drawn: what it is drawn onto, the names so far, and what the writer
 -- holds
@@ -32,11 +33,6 @@ pub record Stays {S : Type 0} (old new : Sketch S) : Type 0 where
   pub written : Keeps old.written new.written
 
 -- ---- A command or a shape
-
--- the first if the test holds, else the second
-abbrev pub OneOf : Bool → Type 0 → Type 0 → Type 0
-OneOf true P Q = P
-OneOf false P Q = Q
 
 -- what a line does that is no query: a shape, or else a command
 abbrev pub Does : {S : Type 0} → Ghosts S → List ℕ → S → Result ℕ ℕ → S → Type 0

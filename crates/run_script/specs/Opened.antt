@@ -6,7 +6,7 @@ use Rattle.map_script.specs.Scopes.{Scope, with_block, with_turn_name}
 use Rattle.map_script.specs.declared.firsts.ItemCounts.{ItemCounts}
 use Rattle.map_script.specs.declared.names.Mark.{Mark}
 use Rattle.map_script.specs.declared.placing.Placing.{Placing}
-use Rattle.run_script.specs.declared.drawing.OpenBlock.{OpenBlock}
+use Rattle.map_blocks.specs.declared.stop.OpenBlock.{OpenBlock}
 
 -- what a loop counts: its name, the number of its turn and the last one
 pub record Counting : Type 0 where

@@ -1,9 +1,9 @@
 -- A script whose blocks are out of order (docs/COMMANDS.md, "Scripts").
 use Rattle.std.specs.Prelude.{◌≡◌, ℕ, List, [], Option, Some, Result, Ok}
 use Rattle.std.specs.Io.KnownBytes.{Keeps}
-use Rattle.run_script.specs.Refused.{IsStop}
-use Rattle.run_script.specs.declared.drawing.Stop.{Stop}
-use Rattle.run_script.specs.declared.error.ScriptError.{ScriptError}
+use Rattle.map_blocks.specs.Stops.{IsStop}
+use Rattle.map_blocks.specs.declared.stop.Stop.{Stop}
+use Rattle.run_canvas.specs.declared.error.ScriptError.{ScriptError}
 
 -- the blocks of a script are out of order at a place: it is refused there with 47, no block is told,
 -- and nothing is drawn

@@ -3,17 +3,17 @@ use Rattle.std.specs.Prelude.{◌≡◌, ◌⊎◌, ℕ, ◌+◌, ◌<◌, ◌�
 use Rattle.map_script.specs.Scopes.{Scope, with_block}
 use Rattle.map_script.specs.declared.names.Mark.{Mark}
 use Rattle.map_script.specs.declared.placing.Placing.{Placing}
-use Rattle.run_script.specs.Blocks.{lines_between}
-use Rattle.run_script.specs.Defined.{Shape}
+use Rattle.map_blocks.specs.Blocks.{lines_between}
+use Rattle.map_blocks.specs.Defined.{Shape}
 use Rattle.run_script.specs.Drawn.{Advances, Progress}
 use Rattle.run_script.specs.Lines.{sketch_of}
 use Rattle.run_script.specs.Opened as spec
 use Rattle.run_script.specs.Opened.{told_turn, turn_number, turns_around}
 use Rattle.run_script.specs.Turns.{Counting, Position, Turn, counted_names}
-use Rattle.run_script.specs.declared.canvas.Canvas.{Ghosts}
-use Rattle.run_script.specs.declared.drawing.OpenBlock.{OpenBlock}
-use Rattle.run_script.specs.declared.error.ScriptError.{ScriptError}
-use Rattle.run_script.specs.declared.error.ScriptError.TheVariants.{OutOfMemory, WriterFailed}
+use Rattle.run_canvas.specs.declared.canvas.Canvas.{Ghosts}
+use Rattle.map_blocks.specs.declared.stop.OpenBlock.{OpenBlock}
+use Rattle.run_canvas.specs.declared.error.ScriptError.{ScriptError}
+use Rattle.run_canvas.specs.declared.error.ScriptError.TheVariants.{OutOfMemory, WriterFailed}
 use Rattle.run_script.specs.declared.reading.Block.{Block}
 use Rattle.run_script.specs.declared.reading.Count.{Count}
 use Rattle.run_script.specs.declared.reading.Naming.{Naming}

@@ -2,11 +2,11 @@
 use Rattle.std.specs.Prelude.{◌≡◌, ℕ, Bool, List, [], ◌∷◌, Option, Result, MatchOption}
 use Rattle.map_tables.specs.Projects.{current_map}
 use Rattle.map_script.specs.Words.{text_words}
-use Rattle.run_script.specs.Defined.{Shape}
+use Rattle.map_blocks.specs.Defined.{Shape}
 use Rattle.run_script.specs.Lines.{DrawsLine, Sketch, sketch_of}
 use Rattle.run_script.specs.Turns.{EndsTurn, OpensBlock, Position, Turn, after_opening}
 use Rattle.map_script.specs.declared.error.DrawError.{DrawError}
-use Rattle.run_script.specs.declared.canvas.Canvas.{Ghosts}
+use Rattle.run_canvas.specs.declared.canvas.Canvas.{Ghosts}
 
 -- how far a script has been drawn: the sketch, the lines to come in the innermost block, and the open
 -- blocks, the outermost first

@@ -8,7 +8,7 @@ use Rattle.map_commands.specs.declared.command.Command.{Command}
 use Rattle.map_commands.specs.declared.project.command.ProjectCommand.TheVariants.{Current}
 use Rattle.map_shapes.specs.Commands.{IsDecided, RefusesDecision}
 use Rattle.map_tables.specs.Projects.{ProjectMaps, body_len, current_map}
-use Rattle.run_script.specs.declared.canvas.Canvas.{Ghosts}
+use Rattle.run_canvas.specs.declared.canvas.Canvas.{Ghosts}
 
 -- a command of the current map as a line
 abbrev pub command_line : Command → List ℕ

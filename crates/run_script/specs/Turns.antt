@@ -13,8 +13,8 @@ use Rattle.map_script.specs.declared.error.DrawError.{DrawError}
 use Rattle.map_script.specs.declared.error.DrawError.TheVariants.{NothingAdded}
 use Rattle.map_script.specs.declared.looping.Range.{Range}
 use Rattle.map_script.specs.declared.placing.Placing.{Placing}
-use Rattle.run_script.specs.Blocks.{behind_block, block_lines}
-use Rattle.run_script.specs.Defined.{Shape, shape_called}
+use Rattle.map_blocks.specs.Blocks.{behind_block, block_lines}
+use Rattle.map_blocks.specs.Defined.{Shape, shape_called}
 pub use Rattle.run_script.specs.Calls.{after_define, after_drawing, after_shape, in_shape, turn_of_shape}
 pub use Rattle.run_script.specs.Opened.{Counting, Naming, Position, Turn, counted_names, in_turn, line_naming}
 

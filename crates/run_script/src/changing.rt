@@ -5,17 +5,16 @@ ghost use Rattle.std.specs.Io.KnownBytes.{Appends};
 ghost use Rattle.map_tables.specs.Projects.{project_of};
 ghost use Rattle.map_script.specs.Known.{scope_of};
 ghost use Rattle.map_script.specs.Views.{seen};
-ghost use Rattle.run_script.specs.declared.error.ScriptError.TheVariants.{OutOfMemory, WriterFailed};
+ghost use Rattle.run_canvas.specs.declared.error.ScriptError.TheVariants.{OutOfMemory, WriterFailed};
 ghost use Rattle.run_script.specs.Lines.{Added, Does, IsTried, Sketch, sketch_of};
 ghost use Rattle.run_script.specs.Given.{AddsFirst, noted_text, with_given_name};
 
-use crate::canvas::Canvas;
-use crate::error::ScriptError;
 use crate::shaping::draw_shape;
 use map_commands::parse;
 use map_script::{Firsts, Names, Numbers, ScriptLine, defined_name, firsts_of};
 use map_shapes::is_shape_line;
 use map_tables::Maps;
+use run_canvas::{Canvas, ScriptError};
 use std::alloc::Global;
 use std::io::Write;
 

@@ -2,48 +2,25 @@
 ghost use Rattle.std.specs.Prelude.{◌≡◌, ◌⊎◌, ◌<◌, ◌^◌, ◌==◌, ◌||◌, ℕ, if◌then◌else◌, List, [], length, vec_len, IfNone, IfOk, IfSome, MatchOption};
 ghost use Rattle.map_script.specs.Known.{scope_of};
 ghost use Rattle.map_script.specs.Scopes.{first_scope};
-ghost use Rattle.run_script.specs.Blocks.{with_places};
-ghost use Rattle.run_script.specs.Canvases.{NothingWaits};
-ghost use Rattle.run_script.specs.Defined.{shapes_in};
+ghost use Rattle.map_blocks.specs.Blocks.{with_places};
+ghost use Rattle.run_canvas.specs.Canvases.{NothingWaits};
+ghost use Rattle.map_blocks.specs.Defined.{shapes_in};
 ghost use Rattle.run_script.specs.Drawn.{EndsFrom, IsScriptDrawn, at_first, line_limit};
 ghost use Rattle.run_script.specs.Places.{AdvancesTo, IsFirstReading, IsToldBehind, IsWithinLines, progress_of, told_around};
-ghost use Rattle.run_script.specs.Refused.{IsStop, IsStopWithin};
-ghost use Rattle.run_script.specs.ShapePlaces.{AreShapesWithin, shapes_among};
+ghost use Rattle.map_blocks.specs.Stops.{IsStop, IsStopWithin};
+ghost use Rattle.map_blocks.specs.ShapePlaces.{AreShapesWithin, shapes_among};
 
-use crate::blocks::order_fault;
-use crate::canvas::Canvas;
-use crate::defined::{Shape, shape_called, shapes_in};
 use crate::ending::end_turn;
-use crate::error::ScriptError;
 use crate::line::draw_line;
 use crate::opening::{open_at, open_loop};
 use crate::reading::{Reading, place_at_hand};
 use crate::shape_lines::{open_shape, pass_define};
+use map_blocks::{OpenBlock, Shape, Stop, order_fault, shape_called, shapes_in};
 use map_script::{DrawError, Names, ScriptLines, at_words, define_words, loop_words};
+use run_canvas::{Canvas, ScriptError};
 use std::alloc::Global;
 use std::io::Write;
 use store_project::ProjectError;
-
-/// A block that was open where a script stopped.
-#[derive(Clone, Copy)]
-pub struct OpenBlock {
-    /// The index of the line that opened it, among the lines, from 0.
-    pub place: usize,
-    /// The number of its turn, if it is a loop's.
-    pub number: Option<i64>,
-}
-
-/// A line of a script that was refused.
-#[derive(Drop)]
-pub struct Stop {
-    /// Its index among the lines, from 0.
-    pub place: usize,
-    /// The number of the refusal.
-    pub code: u16,
-    /// The blocks that were open around it, the outermost first. If it was refused at the end of its block, that isn't
-    /// one of them. There are none with 30 and 31, nor with 47 if the blocks are out of order.
-    pub open: Vec<OpenBlock>,
-}
 
 // How many lines more than it has a script may draw, each end of a block's turn counted as one.
 const MORE_LINES: usize = 1_000_000;

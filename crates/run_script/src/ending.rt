@@ -3,14 +3,14 @@ ghost use Rattle.std.specs.Prelude.{◌≡◌, ◌⊎◌, ◌<◌, ◌-◌, Err,
 ghost use Rattle.map_script.specs.Known.{scope_of};
 ghost use Rattle.map_script.specs.declared.error.DrawError.TheVariants.{OutOfMemory};
 ghost use Rattle.map_tables.specs.Projects.{current_map};
-ghost use Rattle.run_script.specs.Blocks.{with_places};
+ghost use Rattle.map_blocks.specs.Blocks.{with_places};
 ghost use Rattle.run_script.specs.Places.{IsToldBehind, IsWithinLines, counting_of, naming_in, position_of, turns_of};
 ghost use Rattle.run_script.specs.Turns.{EndsTurn, next_count, with_naming};
 
-use crate::canvas::Canvas;
 use crate::reading::{Block, Count, Naming, Reading, enter, leave};
 use map_script::{DrawError, Names, Numbers, ScriptLines, firsts_since};
 use map_tables::Map;
+use run_canvas::Canvas;
 use std::alloc::Global;
 
 // What is counted next, if there is a next turn.

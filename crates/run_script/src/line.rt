@@ -3,14 +3,13 @@ ghost use Rattle.std.specs.Prelude.{◌≡◌, ◌⊎◌, None, MatchResult};
 ghost use Rattle.map_script.specs.Known.{scope_of};
 ghost use Rattle.map_script.specs.Views.{seen};
 ghost use Rattle.map_script.specs.Words.{text_words};
-ghost use Rattle.run_script.specs.declared.error.ScriptError.TheVariants.{OutOfMemory, WriterFailed};
+ghost use Rattle.run_canvas.specs.declared.error.ScriptError.TheVariants.{OutOfMemory, WriterFailed};
 ghost use Rattle.run_script.specs.Lines.{DrawsLine, DrawsOther, Sketch, asks, sketch_of};
 ghost use Rattle.run_script.specs.Given.{GivesWords};
 
-use crate::canvas::Canvas;
 use crate::changing::try_command;
-use crate::error::ScriptError;
 use map_script::{Names, ScriptLine, defined_name, give_words, let_words, resolve};
+use run_canvas::{Canvas, ScriptError};
 use std::alloc::Global;
 use std::io::Write;
 

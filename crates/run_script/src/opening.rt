@@ -7,17 +7,17 @@ ghost use Rattle.map_script.specs.Scopes.{mark_of};
 ghost use Rattle.map_script.specs.Words.{text_words};
 ghost use Rattle.map_script.specs.declared.error.DrawError.TheVariants.{OutOfMemory};
 ghost use Rattle.map_tables.specs.Projects.{current_map};
-ghost use Rattle.run_script.specs.Blocks.{lines_between, with_places};
+ghost use Rattle.map_blocks.specs.Blocks.{lines_between, with_places};
 ghost use Rattle.run_script.specs.Places.{AreBlocksTold, Enters, IsNextBlock, IsToldBehind, IsWithinLines, counting_of, position_of, turns_of};
 ghost use Rattle.run_script.specs.Turns.{OpensBlock, after_at, after_loop, first_count};
 ghost use Rattle.run_script.specs.declared.reading.Block.{Block};
 
-use crate::blocks::block_len;
-use crate::canvas::Canvas;
 use crate::reading::{Block, Count, Reading, enter};
+use map_blocks::block_len;
 use map_script::{
     DrawError, Names, Placing, Range, ScriptLines, at_placing, loop_name, loop_range,
 };
+use run_canvas::Canvas;
 use std::alloc::Global;
 
 // Enters the block that the next line opens, and which places lines so; its `end` stands at a place.

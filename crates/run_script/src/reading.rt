@@ -2,13 +2,13 @@
 ghost use Rattle.std.specs.Prelude.{◌≡◌, ◌⊎◌, ◌<◌, ◌-◌, [], ◌∷◌, ◌++◌, IfOk, IfSome, IsOkUnless, MatchOption, length, take, vec_len};
 ghost use Rattle.map_script.specs.Known.{scope_of};
 ghost use Rattle.map_script.specs.declared.error.DrawError.TheVariants.{OutOfMemory};
-ghost use Rattle.run_script.specs.Blocks.{lines_between, with_places};
+ghost use Rattle.map_blocks.specs.Blocks.{lines_between, with_places};
 ghost use Rattle.run_script.specs.Drawn.{IsAtPlace};
 ghost use Rattle.run_script.specs.Opened.{turn_number};
 ghost use Rattle.run_script.specs.Places.{AreBlocksTold, Enters, IsWithinLines, counting_of, told_block, turns_of};
 ghost use Rattle.run_script.specs.Turns.{counted_names};
 
-use crate::drawing::OpenBlock;
+use map_blocks::OpenBlock;
 use map_script::{DrawError, ItemCounts, Mark, Names, Placing, ScriptLines};
 use std::alloc::Global;
 

@@ -6,20 +6,19 @@ ghost use Rattle.map_script.specs.Lines.{name_in};
 ghost use Rattle.map_script.specs.Words.{text_words};
 ghost use Rattle.map_script.specs.declared.error.DrawError.TheVariants.{OutOfMemory};
 ghost use Rattle.map_tables.specs.Projects.{current_map};
-ghost use Rattle.run_script.specs.Blocks.{lines_between, with_places};
+ghost use Rattle.map_blocks.specs.Blocks.{lines_between, with_places};
 ghost use Rattle.run_script.specs.Places.{IsToldBehind, IsWithinLines, naming_in, position_of, turns_of};
-ghost use Rattle.run_script.specs.ShapePlaces.{IsShapeWithin, shape_among};
+ghost use Rattle.map_blocks.specs.ShapePlaces.{IsShapeWithin, shape_among};
 ghost use Rattle.run_script.specs.Turns.{OpensBlock, after_drawing, after_define, in_shape, line_naming, turn_of_shape};
 
-use crate::blocks::block_len;
-use crate::canvas::Canvas;
-use crate::defined::Shape;
 use crate::reading::{Block, Naming, Reading, enter};
+use map_blocks::{Shape, block_len};
 use map_script::{
     DrawError, Names, ScriptLines, call_words, counts_of, define_fault, defined_name,
     give_parameters,
 };
 use map_tables::Map;
+use run_canvas::Canvas;
 use std::alloc::Global;
 
 // How many blocks may be open, those of shapes among them.

@@ -5,11 +5,11 @@ ghost use Rattle.map_script.specs.Firsts.{counts_of, firsts_since};
 ghost use Rattle.map_tables.specs.Projects.{current_map, project_of};
 ghost use Rattle.run_script.specs.Shaped.{DrawsShape, EndsAll, IsPlanned, RefusesWhole, growth_of_all, has_room, command_line};
 
-use crate::canvas::Canvas;
 use map_commands::{Command, CommandError, ProjectCommand, growth_of, need_of, print};
 use map_script::{Numbers, counts_of, firsts_since};
 use map_shapes::{answer_of, commands_of, read_shape};
 use map_tables::Maps;
+use run_canvas::Canvas;
 use std::alloc::Global;
 
 // A shape's commands, and the number that it answers.

@@ -3,12 +3,12 @@ ghost use Rattle.std.specs.Prelude.{ℕ, Bool, List, Option, Result};
 ghost use Rattle.store_project.specs.Calls.{AllMade, ProjectCall};
 ghost use Rattle.store_project.specs.Sessions.{Creates};
 ghost use Rattle.store_project.specs.States.{State};
-ghost use Rattle.run_script.specs.Canvases.{project_canvas};
+ghost use Rattle.run_canvas.specs.Canvases.{project_canvas};
 ghost use Rattle.run_script.specs.Drawn.{IsScriptDrawn};
 ghost use Rattle.run_script.specs.Stopped.{HoldsAtMoments};
-ghost use Rattle.run_script.specs.Waiting.{Drawing, first_drawing};
-ghost use Rattle.run_script.specs.declared.drawing.Stop.{Stop};
-ghost use Rattle.run_script.specs.declared.error.ScriptError.{ScriptError};
+ghost use Rattle.run_canvas.specs.Waiting.{Drawing, first_drawing};
+ghost use Rattle.map_blocks.specs.declared.stop.Stop.{Stop};
+ghost use Rattle.run_canvas.specs.declared.error.ScriptError.{ScriptError};
 
 use store_disk::Disk;
 use store_project::hold_each_acknowledged;

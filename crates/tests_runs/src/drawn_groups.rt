@@ -2,8 +2,10 @@
 
 use crate::expect::same;
 use crate::sweeping::{GEOMETRY, Row, Way, failing, input, sweep_all};
+use map_blocks::Stop;
 use map_script::{Names, script_lines};
-use run_script::{ProjectCanvas, Stop, draw};
+use run_canvas::ProjectCanvas;
+use run_script::draw;
 use std::alloc::Global;
 use std::process::Abort;
 use std::test::Fail;

@@ -3,7 +3,9 @@ ghost use Rattle.std.specs.Prelude.{◌≡◌, IfOk, length};
 
 use crate::expect::same;
 use map_script::{DrawError, Names, ScriptFiles, ScriptLines, script_lines};
-use run_script::{Canvas, Draft, draw, write_refused};
+use run_canvas::{Canvas, Draft};
+use run_reasons::write_refused;
+use run_script::draw;
 use std::alloc::Global;
 use std::test::Fail;
 

@@ -1,8 +1,8 @@
 use Rattle.std.proofs.Common.{◌∙◌, ap, inl, inr, subst}
 use Rattle.std.proofs.KnownBytes.{Keeps-refl, Keeps-trans}
 use Rattle.store_project.specs.States.{State}
-use Rattle.run_script.specs.Canvases.{draft_over, project_canvas}
-use Rattle.run_script.specs.Waiting.{Drawing}
+use Rattle.run_canvas.specs.Canvases.{draft_over, project_canvas}
+use Rattle.run_canvas.specs.Waiting.{Drawing}
 use Rattle.cli_program.specs.Drawing.{IsDrawnOnto}
 use Rattle.cli_program.proofs.Scripted.{held_back}
 use Rattle.cli_program.proofs.Sources.{no_status}

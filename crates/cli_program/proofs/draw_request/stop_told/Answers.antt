@@ -1,5 +1,5 @@
 use Rattle.std.proofs.Common.{List, ℕ, Ok, Some, subst}
-use Rattle.run_script.specs.Refused.{TellsStop, blocks_text}
+use Rattle.run_reasons.specs.Refused.{TellsStop, blocks_text}
 use Rattle.cli_program.proofs.draw_request.stop_told.Goals as goal
 
 pub returns-in-Ok-clause-told : goal.returns-in-Ok-clause-told

@@ -1,6 +1,6 @@
 use Rattle.std.proofs.Common.{inl, refl, subst}
 use Rattle.std.proofs.KnownBytes.{Keeps-refl}
-use Rattle.run_script.specs.Canvases.{Drafted, draft_canvas}
+use Rattle.run_canvas.specs.Canvases.{Drafted, draft_canvas}
 use Rattle.cli_program.specs.Drawing.{IsDrawnOnto}
 use Rattle.cli_program.proofs.draw_request.try_copy.Goals as goal
 

@@ -1,5 +1,5 @@
 use Rattle.std.proofs.Common.{subst}
-use Rattle.run_script.specs.Canvases.{Drafted, draft_canvas}
+use Rattle.run_canvas.specs.Canvases.{Drafted, draft_canvas}
 use Rattle.cli_program.specs.Drawing.{IsDrawnOnto}
 use Rattle.cli_program.proofs.draw_request.try_script.Goals as goal
 

@@ -1,4 +1,4 @@
-use Rattle.run_script.specs.Blocks.{with_places}
+use Rattle.map_blocks.specs.Blocks.{with_places}
 use Rattle.run_script.proofs.ToldBlocks.{end_told, line_told}
 use Rattle.run_script.proofs.drawing.advance.Goals as goal
 

@@ -1,13 +1,13 @@
 use Rattle.std.proofs.Common.{◌≡◌, ℕ, Bool, List, [], Option, Some, Ok, refl, subst}
 use Rattle.std.proofs.KnownBytes.{Keeps-refl}
 use Rattle.std.specs.Prelude.{MatchOption}
-use Rattle.run_script.specs.Blocks.{order_fault, with_places}
-use Rattle.run_script.specs.Defined.{shapes_in}
+use Rattle.map_blocks.specs.Blocks.{order_fault, with_places}
+use Rattle.map_blocks.specs.Defined.{shapes_in}
 use Rattle.run_script.specs.Drawn.{EndsFrom, IsScriptDrawn, at_first, line_limit}
 use Rattle.run_script.specs.Orders.{IsOutOfOrder}
-use Rattle.run_script.specs.Refused.{IsStop}
-use Rattle.run_script.specs.declared.canvas.Canvas.{Ghosts}
-use Rattle.run_script.specs.declared.drawing.Stop.{Stop}
+use Rattle.map_blocks.specs.Stops.{IsStop}
+use Rattle.run_canvas.specs.declared.canvas.Canvas.{Ghosts}
+use Rattle.map_blocks.specs.declared.stop.Stop.{Stop}
 use Rattle.run_script.proofs.drawing.draw.Goals as goal
 
 -- a script is refused where its blocks are out of order

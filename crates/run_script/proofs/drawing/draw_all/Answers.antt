@@ -1,10 +1,10 @@
 use Rattle.std.proofs.Common.{◌≡◌, ◌∙◌, ◌+◌, ◌<◌, inl, inr, List, None, Some, ℕ, arith, length, refl, sym}
 use Rattle.std.proofs.KnownBytes.{Keeps-refl}
 use Rattle.map_script.specs.Known.{scope_of}
-use Rattle.run_script.specs.Blocks.{with_places}
+use Rattle.map_blocks.specs.Blocks.{with_places}
 use Rattle.run_script.specs.Drawn.{at_first, line_limit}
 use Rattle.run_script.specs.Places.{progress_of, told_around}
-use Rattle.run_script.specs.ShapePlaces.{shapes_among}
+use Rattle.map_blocks.specs.ShapePlaces.{shapes_among}
 use Rattle.run_script.proofs.Grouped.{at_first_place, cut_off_at, finished, finished_within, line_lost, next_lost, none_lost_from, stopped_there}
 use Rattle.run_script.proofs.Progressing.{ComesTo-more, at_start, start_within}
 use Rattle.run_script.proofs.ToldBlocks.{all_open, alone_within, open_are, stop_told, stop_within}

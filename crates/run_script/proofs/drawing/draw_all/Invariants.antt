@@ -1,10 +1,10 @@
 use Rattle.std.proofs.Common.{ℕ, List, length}
 use Rattle.map_script.specs.Known.{scope_of}
-use Rattle.run_script.specs.Blocks.{with_places}
+use Rattle.map_blocks.specs.Blocks.{with_places}
 use Rattle.run_script.specs.Drawn.{ComesTo, at_first, line_limit}
 use Rattle.run_script.specs.Places.{IsWithinLines, progress_of}
 use Rattle.run_script.proofs.Grouped.{IsLostFrom}
-use Rattle.run_script.specs.ShapePlaces.{shapes_among}
+use Rattle.map_blocks.specs.ShapePlaces.{shapes_among}
 use Rattle.run_script.proofs.drawing.draw_all.Given as goal
 
 -- so many lines were drawn and turns ended, and where the first stands of those that wait

@@ -6,11 +6,11 @@ use Rattle.map_script.specs.Known.{scope_of}
 use Rattle.map_script.specs.Loops.{loop_words}
 use Rattle.map_script.specs.Views.{seen}
 use Rattle.map_script.specs.Words.{text_words}
-use Rattle.run_script.specs.Blocks.{lines_between, with_places}
-use Rattle.run_script.specs.Defined.{shape_called}
+use Rattle.map_blocks.specs.Blocks.{lines_between, with_places}
+use Rattle.map_blocks.specs.Defined.{shape_called}
 use Rattle.run_script.specs.Lines.{sketch_of}
 use Rattle.run_script.specs.Places.{turns_of}
-use Rattle.run_script.specs.ShapePlaces.{shape_among, shapes_among}
+use Rattle.map_blocks.specs.ShapePlaces.{shape_among, shapes_among}
 use Rattle.run_script.proofs.Progressing.{any_ok, by_at, by_define, by_loop, by_shape, ended_next, met_block}
 use Rattle.run_script.proofs.ToldBlocks.{any_told}
 use Rattle.run_script.proofs.drawing.draw_next.Goals as goal

@@ -1,6 +1,6 @@
 use Rattle.std.proofs.Common.{◌≡◌, ◌∙◌, ◌-◌, ℕ, ap, arith, length, take}
 use Rattle.std.specs.Prelude.{vec_len}
-use Rattle.run_script.specs.Blocks.{with_places}
+use Rattle.map_blocks.specs.Blocks.{with_places}
 use Rattle.run_script.proofs.ToldBlocks.{around_end, around_line}
 use Rattle.run_script.proofs.drawing.told_around.Goals as goal
 

@@ -7,7 +7,7 @@ use Rattle.map_script.specs.declared.error.DrawError.{DrawError}
 use Rattle.map_script.specs.declared.error.DrawError.TheVariants.{OutOfMemory}
 use Rattle.map_tables.specs.Projects.{current_map}
 use Rattle.map_tables.specs.Tables.{Tables}
-use Rattle.run_script.specs.Blocks.{lines_between, with_places}
+use Rattle.map_blocks.specs.Blocks.{lines_between, with_places}
 use Rattle.run_script.specs.Turns.{EndsTurn, with_naming}
 use Rattle.run_script.specs.Places.{Enters, IsBlockWithin, naming_in, position_of, turns_of}
 use Rattle.run_script.specs.declared.reading.Block.{Block}

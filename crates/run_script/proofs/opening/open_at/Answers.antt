@@ -4,7 +4,7 @@ use Rattle.map_script.specs.Known.{scope_of}
 use Rattle.map_script.specs.Words.{text_words}
 use Rattle.map_tables.specs.Projects.{current_map}
 use Rattle.map_tables.specs.Tables.{Tables}
-use Rattle.run_script.specs.Blocks.{lines_between, with_places}
+use Rattle.map_blocks.specs.Blocks.{lines_between, with_places}
 use Rattle.run_script.specs.Places.{turns_of}
 use Rattle.run_script.proofs.Currents.{current_is}
 use Rattle.run_script.proofs.Positions.{at_met, entered, next_block}

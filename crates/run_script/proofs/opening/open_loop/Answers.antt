@@ -4,7 +4,7 @@ use Rattle.map_script.specs.Loops.{loop_range}
 use Rattle.map_script.specs.Words.{text_words}
 use Rattle.map_tables.specs.Projects.{current_map}
 use Rattle.map_tables.specs.Tables.{Tables}
-use Rattle.run_script.specs.Blocks.{lines_between, with_places}
+use Rattle.map_blocks.specs.Blocks.{lines_between, with_places}
 use Rattle.run_script.specs.Places.{turns_of}
 use Rattle.run_script.specs.Turns.{first_count}
 use Rattle.run_script.proofs.Currents.{current_is}

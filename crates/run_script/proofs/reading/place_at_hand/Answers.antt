@@ -1,5 +1,5 @@
 use Rattle.std.proofs.Common.{◌<◌, List, ℕ, length, arith}
-use Rattle.run_script.proofs.PlacedLines.{at_next_line}
+use Rattle.run_script.proofs.AtHand.{at_next_line}
 use Rattle.run_script.proofs.reading.place_at_hand.Goals as goal
 
 pub returns-then-reading-clause-place : goal.returns-then-reading-clause-place

@@ -1,0 +1,4 @@
+pub mod Blocks
+pub mod Defined
+pub mod ShapePlaces
+pub mod Stops
