@@ -7,3 +7,6 @@ pub mod LeftAlone
 pub mod Whole
 pub mod Bordering
 pub mod Parts
+pub mod Refused
+pub mod Crossings
+pub mod Standing

@@ -1,9 +1,17 @@
--- What an area makes of a map.
-use Rattle.std.specs.Prelude.{ℕ, List, Option, length}
+-- What an area makes of a map, when areas and pillars are accepted, and why they are refused.
+use Rattle.std.specs.Prelude.{◌≡◌, ℕ, List, None, Option, false, length, true}
+use Rattle.lump_records.specs.declared.records.Vertex.{Vertex}
+use Rattle.map_commands.specs.declared.command.Command.{Command}
+use Rattle.map_plane.specs.Places.{placed_lines}
 use Rattle.map_plane.specs.declared.places.PlacedLine.{PlacedLine}
 use Rattle.map_tables.specs.Tables.{Tables}
+use Rattle.map_areas.specs.Apart.{doubled}
 use Rattle.map_areas.specs.Bordered.{IsBordered}
-use Rattle.map_areas.specs.Stays.{KeepsRest}
+use Rattle.map_areas.specs.Drawn.{AreTaken, drawn}
+use Rattle.map_areas.specs.Outlines.{JudgesRefusal, bad_corner, edges_round, outline_edges}
+use Rattle.map_areas.specs.Refusals.{CrossWhole, IsAreaRefusal, IsPillarRefusal, MayStand}
+use Rattle.map_areas.specs.Stays.{KeepsItems, KeepsRest}
+use Rattle.map_areas.specs.declared.error.AreaError.{AreaError}
 
 -- round the border is one sector, or the void; sides that faced it may face the new sector, all else stays, and lines
 -- along each edge divide the new sector from what was outside
@@ -11,3 +19,29 @@ pub record DrawsArea (es : List PlacedLine) (old new : Tables) : Type 0 where
   pub round : Option ℕ
   pub stays : KeepsRest es round old new
   pub border : IsBordered es round (length old.sectors) old new
+
+-- an area with these corners is accepted: they are a simple polygon, its edges cross lines at whole places, and the
+-- commands, which are accepted in turn, draw it
+pub record AcceptsArea (m : Tables) (cs : List Vertex) (commands : List Command) : Type 0 where
+  pub polygon : bad_corner (outline_edges cs) ≡ None
+  pub whole : CrossWhole (placed_lines m) (edges_round true cs)
+  pub taken : AreTaken m commands
+  pub area : DrawsArea (edges_round true cs) m (drawn m commands)
+
+-- an area with these corners is refused: they are no simple polygon, or the map has the reason
+pub record RefusesArea (m : Tables) (cs : List Vertex) (e : AreaError) : Type 0 where
+  pub polygon : JudgesRefusal cs e
+  pub reason : IsAreaRefusal m (edges_round true cs) (doubled (edges_round true cs)) e
+
+-- a pillar with these corners is accepted: they are a simple polygon, no reason refuses it, and the commands are
+-- accepted in turn, and keep what is there
+pub record AcceptsPillar (m : Tables) (cs : List Vertex) (commands : List Command) : Type 0 where
+  pub polygon : bad_corner (outline_edges cs) ≡ None
+  pub stands : MayStand m (edges_round false cs)
+  pub taken : AreTaken m commands
+  pub stays : KeepsItems m (drawn m commands)
+
+-- a pillar with these corners is refused: they are no simple polygon, or the map has the reason
+pub record RefusesPillar (m : Tables) (cs : List Vertex) (e : AreaError) : Type 0 where
+  pub polygon : JudgesRefusal cs e
+  pub reason : IsPillarRefusal m (edges_round false cs) e

@@ -1,10 +1,19 @@
 -- Commands that are drawn in turn into a map.
-use Rattle.std.specs.Prelude.{◌≡◌, List, [], ◌∷◌, None, fold}
+use Rattle.std.specs.Prelude.{◌≡◌, ℕ, true, All, List, [], ◌∷◌, None, Some, fold}
+use Rattle.std.specs.List.{list_any}
+use Rattle.map_plane.specs.Meeting.{is_on}
+use Rattle.map_plane.specs.declared.places.PlacedLine.{PlacedLine}
+use Rattle.map_tables.specs.Errors.{code_of}
 use Rattle.map_tables.specs.Outcomes.{least}
 use Rattle.map_tables.specs.Tables.{Tables}
+use Rattle.map_tables.specs.declared.edit.Edit.TheVariants.{Add}
+use Rattle.map_tables.specs.declared.edit.Item.TheVariants as item
 use Rattle.map_commands.specs.Step.{InRange, after, faults}
 use Rattle.map_commands.specs.declared.command.Command.{Command}
+use Rattle.map_commands.specs.declared.command.Command.TheVariants as command
 use Rattle.map_areas.specs.Stays.{Draws}
+use Rattle.map_areas.specs.declared.error.AreaError.{AreaError}
+use Rattle.map_areas.specs.declared.error.AreaError.TheVariants.{OutOfMemory, OutOfRange, Refused}
 
 -- the map accepts the command, which draws, and leaves another map
 pub record TakesCommand (old : Tables) (c : Command) (new : Tables) : Type 0 where
@@ -25,3 +34,44 @@ AreTaken old cs = (new : Tables) × LeadTo old cs new
 -- the map that the commands leave
 abbrev pub drawn : Tables → List Command → Tables
 drawn m cs = fold after m cs
+
+-- the vertex that a command adds, if it adds one, lies on one of the edges
+abbrev pub IsOnOutline : List PlacedLine → Command → Type 0
+IsOnOutline es (command.Edit (Add (item.Vertex v))) = list_any (λ e. is_on e v) es ≡ true
+IsOnOutline es (command.Split s) = list_any (λ e. is_on e s.at) es ≡ true
+IsOnOutline es c = Unit {0}
+
+-- a command draws, its numbers and names are in range, and it adds no vertex but on the edges
+pub record DrawsOn (es : List PlacedLine) (c : Command) : Type 0 where
+  pub range : InRange c
+  pub draws : Draws c
+  pub outline : IsOnOutline es c
+
+-- commands that draw so are accepted in turn, and the map that they lead to refuses one more with the code
+pub record RefusesInTurn (es : List PlacedLine) (old : Tables) (code : ℕ) : Type 0 where
+  pub before : List Command
+  pub drawing : All (DrawsOn es) before
+  pub new : Tables
+  pub led : LeadTo old before new
+  pub next : Command
+  pub draws : DrawsOn es next
+  pub refused : least (faults new next) ≡ Some code
+
+-- the map refuses the command so, or it is out of range, or memory lacks
+abbrev pub IsFaultOf : Tables → Command → AreaError → Type 0
+IsFaultOf m c (Refused e) = least (faults m c) ≡ Some (code_of e)
+IsFaultOf m c OutOfRange = Unit {0}
+IsFaultOf m c OutOfMemory = Unit {0}
+IsFaultOf m c e = ⊥
+
+-- the map refuses so a command that draws on the edges
+abbrev pub RefusesOnEdges : Tables → List PlacedLine → Command → AreaError → Type 0
+RefusesOnEdges m es c (Refused e) = DrawsOn es c × IsFaultOf m c (Refused e)
+RefusesOnEdges m es c e = IsFaultOf m c e
+
+-- the first of commands, drawn in turn on the edges, that the map doesn't take is refused so
+abbrev pub RefusesDrawing : Tables → List PlacedLine → AreaError → Type 0
+RefusesDrawing m es (Refused e) = RefusesInTurn es m (code_of e)
+RefusesDrawing m es OutOfRange = Unit {0}
+RefusesDrawing m es OutOfMemory = Unit {0}
+RefusesDrawing m es e = ⊥

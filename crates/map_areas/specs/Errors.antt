@@ -22,12 +22,11 @@ abbrev pub refused_as : MapError → AreaError
 refused_as map_error.OutOfMemory = OutOfMemory
 refused_as e = Refused e
 
--- the refusal of a command: a number or a name is out of its range, the map refuses it, or memory lacks
-abbrev pub IsCommandRefusal : AreaError → Type 0
-IsCommandRefusal OutOfRange = Unit {0}
-IsCommandRefusal (Refused e) = Unit {0}
-IsCommandRefusal OutOfMemory = Unit {0}
-IsCommandRefusal e = ⊥
+-- something is out of its range, or memory lacks
+abbrev pub IsOfRange : AreaError → Type 0
+IsOfRange OutOfRange = Unit {0}
+IsOfRange OutOfMemory = Unit {0}
+IsOfRange e = ⊥
 
 -- the refusal is lack of memory
 abbrev pub IsOfMemory : AreaError → Type 0

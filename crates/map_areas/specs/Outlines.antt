@@ -53,9 +53,14 @@ abbrev pub bad_corner : List PlacedLine → Option Vertex
 bad_corner es = option_or (option_map (λ e. e.from) (find (has_clash es) es))
     (if lacks_area es then Some (first_corner es) else None)
 
--- 25 comes exactly if the corners are no simple polygon, and names the corner; memory may lack before that is known
+-- a refusal is 25 exactly if the corners are no simple polygon, and names the corner; memory may lack before that is
+-- known
+abbrev pub JudgesRefusal : List Vertex → AreaError → Type 0
+JudgesRefusal cs (NotAPolygon corner) = bad_corner (outline_edges cs) ≡ Some corner
+JudgesRefusal cs OutOfMemory = Unit {0}
+JudgesRefusal cs e = bad_corner (outline_edges cs) ≡ None
+
+-- 25 comes exactly if the corners are no simple polygon
 abbrev pub JudgesCorners : {X : Type 0} → List Vertex → Result X AreaError → Type 0
 JudgesCorners cs (Ok x) = bad_corner (outline_edges cs) ≡ None
-JudgesCorners cs (Err (NotAPolygon corner)) = bad_corner (outline_edges cs) ≡ Some corner
-JudgesCorners cs (Err OutOfMemory) = Unit {0}
-JudgesCorners cs (Err e) = bad_corner (outline_edges cs) ≡ None
+JudgesCorners cs (Err e) = JudgesRefusal cs e

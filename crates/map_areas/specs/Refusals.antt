@@ -10,10 +10,12 @@ use Rattle.map_plane.specs.Polygon.{is_inside}
 use Rattle.map_plane.specs.declared.places.PlacedLine.{PlacedLine}
 use Rattle.map_tables.specs.Tables.{Tables}
 use Rattle.map_areas.specs.declared.error.AreaError.{AreaError}
-use Rattle.map_areas.specs.declared.error.AreaError.TheVariants.{Crossing, NotAPolygon, NotEmpty, OutOfMemory, OutOfRange, OverVertex, SeveralSectors}
+use Rattle.map_areas.specs.declared.error.AreaError.TheVariants.{Crossing, NotAPolygon, NotEmpty, OutOfMemory, OutOfRange, OverVertex, Refused, SeveralSectors}
 use Rattle.map_areas.specs.declared.error.Part.{Part}
 use Rattle.map_areas.specs.Apart.{place_sum}
-use Rattle.map_areas.specs.Ways.{crosses_way, is_clear, is_same, runs_along, sector_on_right, way}
+use Rattle.map_areas.specs.Drawn.{RefusesInTurn}
+use Rattle.map_areas.specs.Ways.{crosses_way, is_clear, is_same, runs_along, runs_with, sector_on_right, way}
+use Rattle.map_tables.specs.Errors.{code_of}
 
 -- two lines have a point in common: they cross, or an end of one lies on the other
 abbrev pub touches : PlacedLine → PlacedLine → Bool
@@ -43,13 +45,21 @@ abbrev pub are_apart : Tables → List PlacedLine → Part → Part → Bool
 are_apart m es first second = is_corner_part m es first && is_corner_part m es second
     && (is_none second.sector || not (is_same first.sector second.sector))
 
+-- no reason refuses a pillar: its corners are in one sector, each line is wholly outside, and no vertex lies under an
+-- edge
+pub record MayStand (m : Tables) (es : List PlacedLine) : Type 0 where
+  pub corners : (first second : Part) → are_apart m es first second ≡ false
+  pub lines : (n : ℕ) → IsLineInside m es n → ⊥
+  pub vertices : (n : ℕ) → IsVertexUnder m es n → ⊥
+
 -- a pillar is refused with 27 only if its corners aren't in one sector, with 28 only if a line isn't wholly outside or
--- a vertex lies under an edge, and never with 26
+-- a vertex lies under an edge, never with 26, and as a command is only if it is drawn by commands that aren't all taken
 abbrev pub IsPillarRefusal : Tables → List PlacedLine → AreaError → Type 0
 IsPillarRefusal m es (Crossing line near) = ⊥
 IsPillarRefusal m es (SeveralSectors first second) = are_apart m es first second ≡ true
 IsPillarRefusal m es (NotEmpty line) = IsLineInside m es line
 IsPillarRefusal m es (OverVertex vertex) = IsVertexUnder m es vertex
+IsPillarRefusal m es (Refused e) = RefusesInTurn es m (code_of e)
 IsPillarRefusal m es e = Unit {0}
 
 -- the refusal is that of an outline, or memory lacks
@@ -113,16 +123,24 @@ AreEdgesRefused ls es OutOfRange = Unit {0}
 AreEdgesRefused ls es OutOfMemory = Unit {0}
 AreEdgesRefused ls es _ = ⊥
 
+-- where an edge crosses a line, a whole place lies on both
+abbrev pub CrossWhole : List PlacedLine → List PlacedLine → Type 0
+CrossWhole ls es = (n : ℕ) → OneCrosses ls es n → ⊥
+
 -- the refusal is that of a border along which there are several sectors
 abbrev pub IsOfSectors : AreaError → Type 0
 IsOfSectors (SeveralSectors first second) = Unit {0}
 IsOfSectors OutOfRange = Unit {0}
 IsOfSectors e = ⊥
 
--- a part of the border runs along an edge, meets nothing between its ends, and has on its right, which is inside, the
+-- a way leads along an edge, and in its direction
+abbrev pub leads_along : PlacedLine → PlacedLine → Bool
+leads_along w e = runs_along w e && runs_with w e && not (is_at w.from w.to)
+
+-- a part of the border leads along an edge, meets nothing between its ends, and has on its right, which is inside, the
 -- sector that is told, or the void
 abbrev pub is_border_part : Tables → List PlacedLine → Part → Bool
-is_border_part m es p = list_any (runs_along (way p.from p.to)) es && is_clear m (way p.from p.to)
+is_border_part m es p = list_any (leads_along (way p.from p.to)) es && is_clear m (way p.from p.to)
     && is_same (sector_on_right m (way p.from p.to)) p.sector
 
 -- two parts of the border have different sectors inside, or one of them the void
@@ -131,10 +149,12 @@ are_several m es first second = is_border_part m es first && is_border_part m es
     && not (is_same first.sector second.sector)
 
 -- an area is refused with 26 only if an edge crosses a line at no whole place, with 27 only if two parts of its border
--- have different sectors inside, and with 28 only if a part of a line lies inside, by the edges at twice the size
+-- have different sectors inside, with 28 only if a part of a line lies inside, by the edges at twice the size, and as a
+-- command is only if it is drawn by commands that aren't all taken
 abbrev pub IsAreaRefusal : Tables → List PlacedLine → List PlacedLine → AreaError → Type 0
 IsAreaRefusal m es ds (Crossing line near) = OneCrosses (placed_lines m) es line
 IsAreaRefusal m es ds (SeveralSectors first second) = are_several m es first second ≡ true
 IsAreaRefusal m es ds (NotEmpty line) = IsPartInside (placed_lines m) ds line
 IsAreaRefusal m es ds (OverVertex vertex) = ⊥
+IsAreaRefusal m es ds (Refused e) = RefusesInTurn es m (code_of e)
 IsAreaRefusal m es ds e = Unit {0}

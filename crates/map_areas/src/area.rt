@@ -1,13 +1,12 @@
 //! Areas: polygons that become sectors.
-ghost use Rattle.std.specs.Prelude.{◌≡◌, ℕ, All, IfErr, IfOk, OnOk, length, true};
+ghost use Rattle.std.specs.Prelude.{◌≡◌, ℕ, All, IfErr, IfOk, OnOk};
 ghost use Rattle.map_areas.specs.Apart.{KeepsAlone, doubled};
 ghost use Rattle.map_areas.specs.Bordered.{IsBordered};
 ghost use Rattle.map_areas.specs.Changes.{KeepsUnchanged};
 ghost use Rattle.map_areas.specs.Drawn.{AreTaken, drawn};
-ghost use Rattle.map_areas.specs.Errors.{IsCommandRefusal, IsOfMap};
-ghost use Rattle.map_areas.specs.Outlines.{JudgesCorners, edges_round};
-ghost use Rattle.map_areas.specs.Areas.{DrawsArea};
-ghost use Rattle.map_areas.specs.Refusals.{IsAreaRefusal};
+ghost use Rattle.map_areas.specs.Errors.{IsOfMap, IsOfRange};
+ghost use Rattle.map_areas.specs.Areas.{AcceptsArea, DrawsArea, RefusesArea};
+ghost use Rattle.map_areas.specs.Refusals.{CrossWhole, IsAreaRefusal};
 ghost use Rattle.map_areas.specs.Stays.{BecomesLine, BecomesSide, EachBecomes};
 ghost use Rattle.map_commands.specs.Step.{InRange};
 ghost use Rattle.map_plane.specs.Places.{placed_lines};
@@ -28,8 +27,8 @@ use crate::ways::{Ground, ground_of};
 use lump_records::{Name8, Sector, Vertex};
 use map_commands::Command;
 use map_plane::{PlacedLine, placed_lines};
-use map_tables::{Kind, Map, MapError};
-use std::alloc::Global;
+use map_tables::{Kind, Map};
+use std::alloc::{AllocError, Global};
 
 /// A polygon that becomes a sector. Its corners are in order, either way round; WALL is the texture of its walls.
 #[derive(Drop)]
@@ -68,7 +67,7 @@ fn draw(
     sector: Sector,
     paint: &Paint,
     border: &Border,
-) -> Result<(), MapError> {
+) -> Result<(), AllocError> {
     drawing.plan.add_sector(sector)?;
     drawing.add_vertices(border)?;
     let lines = drawing.plan.placed_lines(alloc)?;
@@ -103,7 +102,7 @@ fn look_at(
         border.now.doubled.items map.now.tables new.now.tables n) }
     ensures border { OnOk result (IsBordered border.now.edges.items paint.now.round
         paint.now.sector map.now.tables new.now.tables) }
-    ensures refused { IfErr result IsCommandRefusal }
+    ensures refused { IfErr result IsOfRange }
 {
     find_kept(map, new, paint.round, paint.sector, changing)?;
     find_alone(map, new, border, changing)?;
@@ -122,6 +121,7 @@ fn commands_within(
     ensures taken { IfOk result (λ commands. AreTaken map.now.tables commands.items) }
     ensures area { IfOk result (λ commands.
         DrawsArea edges.items map.now.tables (drawn map.now.tables commands.items)) }
+    ensures whole { OnOk result (CrossWhole (placed_lines map.now.tables) edges.items) }
     ensures refused { IfErr result IsOfMap }
     ensures reason { IfErr result (IsAreaRefusal map.now.tables edges.items
         (doubled edges.items)) }
@@ -140,7 +140,7 @@ fn commands_within(
     draw(alloc, &mut drawing, area.sector, &paint, &border)?;
     let commands = drawing.into_commands();
     let all = commands.as_slice();
-    let new = try_commands(alloc, map, all)?;
+    let new = try_commands(alloc, map, &border.edges, all)?;
     let changing = changing_of(alloc, all)?;
     look_at(alloc, map, &ground, &new, &paint, &border, &changing)?;
     Ok(commands)
@@ -148,14 +148,12 @@ fn commands_within(
 
 /// The commands that draw the area into the map.
 pub fn area_commands(alloc: Global, map: &Map, area: &Area) -> Result<Vec<Command>, AreaError>
-    ensures polygon { JudgesCorners area.now.corners.items result }
+    ensures ok { IfOk result (λ commands.
+        AcceptsArea map.now.tables area.now.corners.items commands.items) }
     ensures range { IfOk result (λ commands. All InRange commands.items) }
-    ensures taken { IfOk result (λ commands. AreTaken map.now.tables commands.items) }
-    ensures area { IfOk result (λ commands. DrawsArea (edges_round true area.now.corners.items)
-        map.now.tables (drawn map.now.tables commands.items)) }
-    ensures reason { let es = edges_round true area.now.corners.items in
-        IfErr result (IsAreaRefusal map.now.tables es (doubled es)) }
+    ensures refused { IfErr result (RefusesArea map.now.tables area.now.corners.items) }
 {
     let edges = polygon(alloc, &area.corners, true)?;
-    commands_within(alloc, map, area, edges)
+    let commands = commands_within(alloc, map, area, edges)?;
+    Ok(commands)
 }

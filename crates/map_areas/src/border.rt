@@ -1,11 +1,12 @@
 //! The border of a polygon: its edges, and the places at which they are cut.
-ghost use Rattle.std.specs.Prelude.{◌≡◌, ◌≤◌, ◌&&◌, IfErr, IfOk, true};
+ghost use Rattle.std.specs.Prelude.{◌≡◌, ◌≤◌, ◌&&◌, ℕ, IfErr, IfOk, OnOk, Some, slice_get, true};
 ghost use Rattle.map_areas.specs.Apart.{doubled, doubled_line, place_sum};
 ghost use Rattle.map_areas.specs.Errors.{IsOfMap};
-ghost use Rattle.map_areas.specs.Refusals.{AreEdgesRefused, IsAreaRefusal, IsCrossingRefusal, IsEdgeRefusal, holds_middle};
+ghost use Rattle.map_areas.specs.Refusals.{AreEdgesRefused, CrossWhole, CrossesBetween, IsAreaRefusal, IsCrossingRefusal, IsEdgeRefusal, holds_middle};
 ghost use Rattle.map_areas.specs.Ways.{crosses_way};
 ghost use Rattle.map_plane.specs.Meeting.{is_on};
 ghost use Rattle.map_plane.specs.Places.{placed_lines};
+ghost use Rattle.map_plane.specs.declared.places.PlacedLine.{PlacedLine};
 
 use crate::crossing::{may_meet, near_crossing};
 use crate::cuts::put_along;
@@ -94,7 +95,8 @@ fn put_crossing(
     number: u32,
 ) -> Result<(), AreaError>
     requires { number ≤ 65535 }
-    ensures { IfErr result (IsEdgeRefusal lines.now edge.now) }
+    ensures whole { OnOk result (CrossesBetween lines.now edge.now number → ⊥) }
+    ensures refused { IfErr result (IsEdgeRefusal lines.now edge.now) }
 {
     let Some(line) = lines.get(number as usize) else {
         return Ok(());
@@ -114,7 +116,9 @@ fn put_crossings(
     lines: &[PlacedLine],
     edge: &PlacedLine,
 ) -> Result<(), AreaError>
-    ensures { IfErr result (IsEdgeRefusal lines.now edge.now) }
+    requires { lines.now ≡ placed_lines map.now.tables }
+    ensures whole { OnOk result ((n : ℕ) → CrossesBetween lines.now edge.now n → ⊥) }
+    ensures refused { IfErr result (IsEdgeRefusal lines.now edge.now) }
 {
     for n in 0..map.count(Kind::Line) {
         match put_crossing(stops, lines, edge, n) {
@@ -132,7 +136,9 @@ fn stops_of(
     lines: &[PlacedLine],
     edge: &PlacedLine,
 ) -> Result<Vec<Vertex>, AreaError>
-    ensures { IfErr result (IsEdgeRefusal lines.now edge.now) }
+    requires { lines.now ≡ placed_lines map.now.tables }
+    ensures whole { OnOk result ((n : ℕ) → CrossesBetween lines.now edge.now n → ⊥) }
+    ensures refused { IfErr result (IsEdgeRefusal lines.now edge.now) }
 {
     let mut stops = Vec::new(alloc);
     stops.push(edge.from)?;
@@ -150,7 +156,10 @@ fn put_stops(
     edges: &[PlacedLine],
     index: usize,
 ) -> Result<(), AreaError>
-    ensures { IfErr result (AreEdgesRefused lines.now edges.now) }
+    requires { lines.now ≡ placed_lines map.now.tables }
+    ensures whole { OnOk result ((e : PlacedLine) → slice_get edges.now index ≡ Some e
+        → (n : ℕ) → CrossesBetween lines.now e n → ⊥) }
+    ensures refused { IfErr result (AreEdgesRefused lines.now edges.now) }
 {
     let Some(edge) = edges.get(index) else {
         return Ok(());
@@ -167,7 +176,9 @@ fn all_stops(
     lines: &[PlacedLine],
     edges: &[PlacedLine],
 ) -> Result<Vec<Vertex>, AreaError>
-    ensures { IfErr result (AreEdgesRefused lines.now edges.now) }
+    requires { lines.now ≡ placed_lines map.now.tables }
+    ensures whole { OnOk result (CrossWhole lines.now edges.now) }
+    ensures refused { IfErr result (AreEdgesRefused lines.now edges.now) }
 {
     let mut all = Vec::new(alloc);
     for index in 0..edges.len() {
@@ -189,6 +200,7 @@ pub(crate) fn border_of(
     requires { lines.now ≡ placed_lines map.now.tables }
     ensures edges { IfOk result (λ border. border.edges.items ≡ edges.items) }
     ensures doubled { IfOk result (λ border. border.doubled.items ≡ doubled edges.items) }
+    ensures whole { OnOk result (CrossWhole (placed_lines map.now.tables) edges.items) }
     ensures refused { IfErr result IsOfMap }
     ensures reason { IfErr result
         (IsAreaRefusal map.now.tables edges.items (doubled edges.items)) }

@@ -3,7 +3,7 @@ ghost use Rattle.std.specs.Prelude.{◌≡◌, All, IfErr, OnOk};
 ghost use Rattle.std.specs.List.{list_any};
 ghost use Rattle.map_areas.specs.Apart.{doubled};
 ghost use Rattle.map_areas.specs.Bordered.{divides, faces_sector, has_on_left, has_on_right, is_covered, is_wall_along, is_walled, leads, IsCovered};
-ghost use Rattle.map_areas.specs.Errors.{IsCommandRefusal};
+ghost use Rattle.map_areas.specs.Errors.{IsOfRange};
 ghost use Rattle.map_plane.specs.Places.{placed_lines};
 
 use crate::border::Border;
@@ -202,7 +202,7 @@ pub(crate) fn find_bordered(
     ensures covered { OnOk result
         (All (IsCovered old.now.tables new.now.tables paint.now.round paint.now.sector)
         border.now.edges.items) }
-    ensures refused { IfErr result IsCommandRefusal }
+    ensures refused { IfErr result IsOfRange }
 {
     let mut start = 0usize;
     for edge in &border.edges {

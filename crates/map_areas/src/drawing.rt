@@ -7,8 +7,8 @@ use crate::walls::{add_side, add_wall, face, open, open_side, solid_side};
 use lump_records::{Line, NO_SIDE, Name8, Vertex};
 use map_commands::Command;
 use map_plane::{PlacedLine, is_at};
-use map_tables::{Map, MapError};
-use std::alloc::Global;
+use map_tables::Map;
+use std::alloc::{AllocError, Global};
 
 /// What an area is drawn into: a plan, and how often its sides are named.
 #[derive(Drop)]
@@ -26,7 +26,7 @@ pub(crate) struct Paint {
 }
 
 /// A drawing over the map, as it is.
-pub(crate) fn drawing_of(alloc: Global, map: &Map) -> Result<Drawing, MapError> {
+pub(crate) fn drawing_of(alloc: Global, map: &Map) -> Result<Drawing, AllocError> {
     let plan = plan_of(alloc, map)?;
     let uses = Uses::of(alloc, &plan)?;
     Ok(Drawing { plan, uses })
@@ -37,12 +37,9 @@ pub(crate) fn number_of(line: &PlacedLine) -> u16 {
     u16::try_from(line.number).unwrap_or(u16::MAX)
 }
 
-/// The number of the vertex at the place.
-pub(crate) fn vertex_of(plan: &Plan, place: Vertex) -> Result<u16, MapError> {
-    match plan.vertex_at(place) {
-        Some(vertex) => Ok(vertex),
-        None => Err(MapError::NoVertex),
-    }
+/// The number of the vertex at the place, or one that no vertex has.
+pub(crate) fn vertex_of(plan: &Plan, place: Vertex) -> u16 {
+    plan.vertex_at(place).unwrap_or(u16::MAX)
 }
 
 impl Drawing {
@@ -53,8 +50,10 @@ impl Drawing {
     }
 
     // Cuts a line at a place between its ends, and answers the number of the part behind the place.
-    fn cut(&mut self, number: u16, at: Vertex) -> Result<u16, MapError> {
-        let line = self.plan.line(number)?;
+    fn cut(&mut self, number: u16, at: Vertex) -> Result<u16, AllocError> {
+        let Some(line) = self.plan.line(number) else {
+            return Ok(number);
+        };
         self.uses.add(line.right);
         self.uses.add(line.left);
         match self.plan.vertex_at(at) {
@@ -62,12 +61,12 @@ impl Drawing {
                 self.plan.set_line(number, Line { v2: vertex, ..line })?;
                 self.plan.add_line(Line { v1: vertex, ..line })
             }
-            None => self.plan.split(number, at),
+            None => self.plan.split(number, line, at),
         }
     }
 
     // Cuts the line at these places, which lie along it in order.
-    fn cut_line(&mut self, line: PlacedLine, cuts: &[Vertex]) -> Result<(), MapError> {
+    fn cut_line(&mut self, line: PlacedLine, cuts: &[Vertex]) -> Result<(), AllocError> {
         let mut number = number_of(&line);
         for cut in cuts {
             number = self.cut(number, *cut)?;
@@ -81,7 +80,7 @@ impl Drawing {
         alloc: Global,
         lines: &[PlacedLine],
         border: &Border,
-    ) -> Result<(), MapError> {
+    ) -> Result<(), AllocError> {
         for line in lines {
             let cuts = cuts_of(alloc, &border.stops, line)?;
             self.cut_line(*line, &cuts)?;
@@ -90,7 +89,7 @@ impl Drawing {
     }
 
     /// Adds a vertex at each stop of the border where none is.
-    pub(crate) fn add_vertices(&mut self, border: &Border) -> Result<(), MapError> {
+    pub(crate) fn add_vertices(&mut self, border: &Border) -> Result<(), AllocError> {
         for stop in &border.stops {
             if self.plan.vertex_at(*stop).is_none() {
                 self.plan.add_vertex(*stop)?;
@@ -100,9 +99,9 @@ impl Drawing {
     }
 
     // Draws a part of the border where no line is.
-    fn draw_part(&mut self, paint: &Paint, from: Vertex, to: Vertex) -> Result<(), MapError> {
-        let v1 = vertex_of(&self.plan, from)?;
-        let v2 = vertex_of(&self.plan, to)?;
+    fn draw_part(&mut self, paint: &Paint, from: Vertex, to: Vertex) -> Result<(), AllocError> {
+        let v1 = vertex_of(&self.plan, from);
+        let v2 = vertex_of(&self.plan, to);
         match paint.round {
             Some(round) => {
                 let inner = open_side(paint.wall, paint.sector);
@@ -146,7 +145,7 @@ impl Drawing {
         paint: &Paint,
         from: Vertex,
         to: Vertex,
-    ) -> Result<(), MapError> {
+    ) -> Result<(), AllocError> {
         match self.find_line(lines, paint, from, to) {
             Some((line, runs)) => match paint.round {
                 Some(_) => face(&mut self.plan, &mut self.uses, line, runs, paint.sector),
@@ -168,7 +167,7 @@ impl Drawing {
         lines: &[PlacedLine],
         paint: &Paint,
         border: &Border,
-    ) -> Result<(), MapError> {
+    ) -> Result<(), AllocError> {
         for (n, from) in border.stops.iter().enumerate() {
             self.draw_along(lines, paint, *from, border.next(n, *from))?;
         }
@@ -176,7 +175,12 @@ impl Drawing {
     }
 
     // Lets one side of a line face the new sector if it faces the one round the border.
-    fn face_if_round(&mut self, paint: &Paint, line: u16, on_right: bool) -> Result<(), MapError> {
+    fn face_if_round(
+        &mut self,
+        paint: &Paint,
+        line: u16,
+        on_right: bool,
+    ) -> Result<(), AllocError> {
         if self.plan.faced(line, on_right) == paint.round {
             return face(&mut self.plan, &mut self.uses, line, on_right, paint.sector);
         }
@@ -189,7 +193,7 @@ impl Drawing {
         lines: &[PlacedLine],
         paint: &Paint,
         border: &Border,
-    ) -> Result<(), MapError> {
+    ) -> Result<(), AllocError> {
         for line in lines {
             if border.holds_middle(line.from, line.to) {
                 self.face_if_round(paint, number_of(line), true)?;

@@ -1,14 +1,15 @@
 //! Pillars: polygons with nothing inside.
-ghost use Rattle.std.specs.Prelude.{◌≡◌, ◌&&◌, All, IfErr, IfOk, false, slice_get};
+ghost use Rattle.std.specs.Prelude.{◌≡◌, ◌&&◌, ℕ, All, IfErr, IfOk, OnOk, Some, false, slice_get};
 ghost use Rattle.std.specs.List.{list_any};
 ghost use Rattle.std.specs.Option.{option_map_or};
+ghost use Rattle.map_areas.specs.Areas.{AcceptsPillar, RefusesPillar};
 ghost use Rattle.map_areas.specs.Drawn.{AreTaken, drawn};
 ghost use Rattle.map_areas.specs.Errors.{IsOfMap};
-ghost use Rattle.map_areas.specs.Outlines.{JudgesCorners, edges_round};
-ghost use Rattle.map_areas.specs.Refusals.{IsPillarRefusal, are_apart, is_corner_part, is_in_the_way, touches};
+ghost use Rattle.map_areas.specs.Refusals.{IsLineInside, IsPillarRefusal, IsVertexUnder, MayStand, are_apart, is_corner_part, is_in_the_way, touches};
 ghost use Rattle.map_areas.specs.Stays.{KeepsItems};
 ghost use Rattle.map_commands.specs.Step.{InRange};
 ghost use Rattle.map_plane.specs.Meeting.{is_at, is_on};
+ghost use Rattle.map_plane.specs.Nearest.{sector_of_place};
 ghost use Rattle.map_plane.specs.Places.{placed_lines};
 
 use crate::drawing::{Drawing, drawing_of, vertex_of};
@@ -20,8 +21,8 @@ use crate::ways::is_same;
 use lump_records::{NO_SIDE, Name8, Vertex};
 use map_commands::Command;
 use map_plane::{PlacedLine, crosses, is_at, is_inside, is_on, is_on_any, placed_lines, sector_at};
-use map_tables::{Kind, Map, MapError};
-use std::alloc::Global;
+use map_tables::{Kind, Map};
+use std::alloc::{AllocError, Global};
 
 /// A polygon with nothing inside, in a sector. Its corners are in order, either way round.
 #[derive(Drop)]
@@ -31,7 +32,9 @@ pub struct Pillar {
 }
 
 // The edge, and the sector that its first end belongs to.
-fn part_at(map: &Map, edge: &PlacedLine) -> Part {
+fn part_at(map: &Map, edge: &PlacedLine) -> Part
+    ensures { result.sector ≡ sector_of_place map.now.tables edge.now.from }
+{
     Part {
         from: edge.from,
         to: edge.to,
@@ -77,27 +80,25 @@ fn apart(map: &Map, edges: &[PlacedLine], first: Part, second: Part) -> AreaErro
 
 // The sector that all corners belong to.
 fn sector_of(map: &Map, edges: &[PlacedLine]) -> Result<u16, AreaError>
+    ensures same { IfOk result (λ sector.
+        All (λ e. sector_of_place map.now.tables e.from ≡ Some sector) edges.now) }
     ensures refused { IfErr result IsOfMap }
     ensures reason { IfErr result (IsPillarRefusal map.now.tables edges.now) }
 {
-    let mut first: Option<Part> = None;
+    let Some(start) = edges.first() else {
+        return Err(AreaError::OutOfRange);
+    };
+    let first = part_at(map, start);
+    let Some(sector) = first.sector else {
+        return Err(apart(map, edges, first, first));
+    };
     for edge in edges {
         let part = part_at(map, edge);
-        let first_part = first.unwrap_or(part);
-        if part.sector.is_none() || part.sector != first_part.sector {
-            return Err(apart(map, edges, first_part, part));
+        if !is_same(Some(sector), part.sector) {
+            return Err(apart(map, edges, first, part));
         }
-        first = Some(first_part);
     }
-    match first {
-        Some(
-            Part {
-                sector: Some(sector),
-                ..
-            },
-        ) => Ok(sector),
-        _ => Err(AreaError::OutOfRange),
-    }
+    Ok(sector)
 }
 
 // Whether two lines have a point in common.
@@ -135,6 +136,7 @@ fn is_line_inside(lines: &[PlacedLine], edges: &[PlacedLine], number: u32) -> bo
 // Refuses the first line that isn't wholly outside.
 fn find_no_line(map: &Map, lines: &[PlacedLine], edges: &[PlacedLine]) -> Result<(), AreaError>
     requires { lines.now ≡ placed_lines map.now.tables }
+    ensures outside { OnOk result ((n : ℕ) → IsLineInside map.now.tables edges.now n → ⊥) }
     ensures refused { IfErr result IsOfMap }
     ensures reason { IfErr result (IsPillarRefusal map.now.tables edges.now) }
 {
@@ -159,6 +161,7 @@ fn is_vertex_under(map: &Map, edges: &[PlacedLine], number: u32) -> bool
 
 // Refuses the first vertex that is on an edge.
 fn find_no_vertex(map: &Map, edges: &[PlacedLine]) -> Result<(), AreaError>
+    ensures free { OnOk result ((n : ℕ) → IsVertexUnder map.now.tables edges.now n → ⊥) }
     ensures refused { IfErr result IsOfMap }
     ensures reason { IfErr result (IsPillarRefusal map.now.tables edges.now) }
 {
@@ -176,13 +179,13 @@ fn draw(
     edges: &[PlacedLine],
     wall: Name8,
     sector: u16,
-) -> Result<(), MapError> {
+) -> Result<(), AllocError> {
     for edge in edges {
         drawing.plan.add_vertex(edge.from)?;
     }
     for edge in edges {
-        let v1 = vertex_of(&drawing.plan, edge.from)?;
-        let v2 = vertex_of(&drawing.plan, edge.to)?;
+        let v1 = vertex_of(&drawing.plan, edge.from);
+        let v2 = vertex_of(&drawing.plan, edge.to);
         let side = solid_side(wall, sector);
         let right = add_side(&mut drawing.plan, &mut drawing.uses, side)?;
         add_wall(&mut drawing.plan, v1, v2, right, NO_SIDE)?;
@@ -201,6 +204,7 @@ fn commands_within(
     ensures taken { IfOk result (λ commands. AreTaken map.now.tables commands.items) }
     ensures stays { IfOk result (λ commands.
         KeepsItems map.now.tables (drawn map.now.tables commands.items)) }
+    ensures stands { OnOk result (MayStand map.now.tables edges.now) }
     ensures refused { IfErr result IsOfMap }
     ensures reason { IfErr result (IsPillarRefusal map.now.tables edges.now) }
 {
@@ -212,20 +216,18 @@ fn commands_within(
     draw(&mut drawing, edges, wall, sector)?;
     let commands = drawing.into_commands();
     let all = commands.as_slice();
-    let _new = try_commands(alloc, map, all)?;
+    let _new = try_commands(alloc, map, edges, all)?;
     Ok(commands)
 }
 
 /// The commands that draw the pillar into the map.
 pub fn pillar_commands(alloc: Global, map: &Map, pillar: &Pillar) -> Result<Vec<Command>, AreaError>
-    ensures polygon { JudgesCorners pillar.now.corners.items result }
+    ensures ok { IfOk result (λ commands.
+        AcceptsPillar map.now.tables pillar.now.corners.items commands.items) }
     ensures range { IfOk result (λ commands. All InRange commands.items) }
-    ensures taken { IfOk result (λ commands. AreTaken map.now.tables commands.items) }
-    ensures stays { IfOk result (λ commands.
-        KeepsItems map.now.tables (drawn map.now.tables commands.items)) }
-    ensures reason { IfErr result
-        (IsPillarRefusal map.now.tables (edges_round false pillar.now.corners.items)) }
+    ensures refused { IfErr result (RefusesPillar map.now.tables pillar.now.corners.items) }
 {
     let edges = polygon(alloc, &pillar.corners, false)?;
-    commands_within(alloc, map, pillar.wall, &edges)
+    let commands = commands_within(alloc, map, pillar.wall, &edges)?;
+    Ok(commands)
 }

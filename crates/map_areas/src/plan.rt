@@ -4,8 +4,8 @@ ghost use Rattle.std.specs.Prelude.{◌≡◌, IfOk};
 use lump_records::{Line, Sector, Side, Vertex};
 use map_commands::{Command, LineSplit};
 use map_plane::PlacedLine;
-use map_tables::{Edit, Item, Kind, Map, MapError};
-use std::alloc::Global;
+use map_tables::{Edit, Item, Kind, Map};
+use std::alloc::{AllocError, Global};
 
 /// The vertices, sides and lines of a map, how many sectors it has, and the commands that were drawn into it.
 #[derive(Drop)]
@@ -23,7 +23,7 @@ fn number_of(index: usize) -> u16 {
 }
 
 /// The vertices of a map.
-pub(crate) fn vertices_of(alloc: Global, map: &Map) -> Result<Vec<Vertex>, MapError>
+pub(crate) fn vertices_of(alloc: Global, map: &Map) -> Result<Vec<Vertex>, AllocError>
     ensures { IfOk result (λ vertices. vertices.items ≡ map.now.tables.vertices) }
 {
     let mut vertices = Vec::with_capacity(alloc, map.count(Kind::Vertex) as usize)?;
@@ -35,7 +35,7 @@ pub(crate) fn vertices_of(alloc: Global, map: &Map) -> Result<Vec<Vertex>, MapEr
 }
 
 // The sides of a map.
-fn sides_of(alloc: Global, map: &Map) -> Result<Vec<Side>, MapError> {
+fn sides_of(alloc: Global, map: &Map) -> Result<Vec<Side>, AllocError> {
     let mut sides = Vec::with_capacity(alloc, map.count(Kind::Side) as usize)?;
     for n in 0..map.count(Kind::Side) {
         let side = map.side(n).unwrap();
@@ -45,7 +45,7 @@ fn sides_of(alloc: Global, map: &Map) -> Result<Vec<Side>, MapError> {
 }
 
 // The lines of a map.
-fn lines_of(alloc: Global, map: &Map) -> Result<Vec<Line>, MapError> {
+fn lines_of(alloc: Global, map: &Map) -> Result<Vec<Line>, AllocError> {
     let mut lines = Vec::with_capacity(alloc, map.count(Kind::Line) as usize)?;
     for n in 0..map.count(Kind::Line) {
         let line = map.line(n).unwrap();
@@ -55,7 +55,7 @@ fn lines_of(alloc: Global, map: &Map) -> Result<Vec<Line>, MapError> {
 }
 
 /// A plan of the map, as it is.
-pub(crate) fn plan_of(alloc: Global, map: &Map) -> Result<Plan, MapError> {
+pub(crate) fn plan_of(alloc: Global, map: &Map) -> Result<Plan, AllocError> {
     Ok(Plan {
         vertices: vertices_of(alloc, map)?,
         sides: sides_of(alloc, map)?,
@@ -79,13 +79,13 @@ impl Plan {
     }
 
     // Notes an edit of one item.
-    fn note(&mut self, edit: Edit) -> Result<(), MapError> {
+    fn note(&mut self, edit: Edit) -> Result<(), AllocError> {
         self.commands.push(Command::Edit(edit))?;
         Ok(())
     }
 
     /// Draws a vertex, and answers its number.
-    pub(crate) fn add_vertex(&mut self, vertex: Vertex) -> Result<u16, MapError> {
+    pub(crate) fn add_vertex(&mut self, vertex: Vertex) -> Result<u16, AllocError> {
         let number = number_of(self.vertices.len());
         self.vertices.push(vertex)?;
         self.note(Edit::Add(Item::Vertex(vertex)))?;
@@ -93,7 +93,7 @@ impl Plan {
     }
 
     /// Draws a sector, and answers its number.
-    pub(crate) fn add_sector(&mut self, sector: Sector) -> Result<u16, MapError> {
+    pub(crate) fn add_sector(&mut self, sector: Sector) -> Result<u16, AllocError> {
         let number = number_of(self.sector_count);
         self.sector_count = self.sector_count.saturating_add(1);
         self.note(Edit::Add(Item::Sector(sector)))?;
@@ -101,7 +101,7 @@ impl Plan {
     }
 
     /// Draws a side, and answers its number.
-    pub(crate) fn add_side(&mut self, side: Side) -> Result<u16, MapError> {
+    pub(crate) fn add_side(&mut self, side: Side) -> Result<u16, AllocError> {
         let number = number_of(self.sides.len());
         self.sides.push(side)?;
         self.note(Edit::Add(Item::Side(side)))?;
@@ -109,7 +109,7 @@ impl Plan {
     }
 
     /// Draws a line, and answers its number.
-    pub(crate) fn add_line(&mut self, line: Line) -> Result<u16, MapError> {
+    pub(crate) fn add_line(&mut self, line: Line) -> Result<u16, AllocError> {
         let number = number_of(self.lines.len());
         self.lines.push(line)?;
         self.note(Edit::Add(Item::Line(line)))?;
@@ -117,7 +117,7 @@ impl Plan {
     }
 
     /// Changes the side with the number.
-    pub(crate) fn set_side(&mut self, number: u16, side: Side) -> Result<(), MapError> {
+    pub(crate) fn set_side(&mut self, number: u16, side: Side) -> Result<(), AllocError> {
         if let Some(old) = self.sides.get_mut(usize::from(number)) {
             *old = side;
         }
@@ -132,30 +132,24 @@ impl Plan {
     }
 
     /// Changes the line with the number.
-    pub(crate) fn set_line(&mut self, number: u16, line: Line) -> Result<(), MapError> {
+    pub(crate) fn set_line(&mut self, number: u16, line: Line) -> Result<(), AllocError> {
         self.put_line(number, line);
         self.note(Edit::Set(number, Item::Line(line)))
     }
 
     /// The line with the number.
-    pub(crate) fn line(&self, number: u16) -> Result<Line, MapError> {
-        match self.lines.get(usize::from(number)) {
-            Some(line) => Ok(*line),
-            None => Err(MapError::NoLine),
-        }
+    pub(crate) fn line(&self, number: u16) -> Option<Line> {
+        self.lines.get(usize::from(number)).copied()
     }
 
     /// The side with the number.
-    pub(crate) fn side(&self, number: u16) -> Result<Side, MapError> {
-        match self.sides.get(usize::from(number)) {
-            Some(side) => Ok(*side),
-            None => Err(MapError::NoSide),
-        }
+    pub(crate) fn side(&self, number: u16) -> Option<Side> {
+        self.sides.get(usize::from(number)).copied()
     }
 
-    /// Cuts the line with the number in two at a place where no vertex is, and answers the number of the new line.
-    pub(crate) fn split(&mut self, number: u16, at: Vertex) -> Result<u16, MapError> {
-        let line = self.line(number)?;
+    /// Cuts this line, which has the number, in two at a place where no vertex is, and answers the number of the new
+    /// line.
+    pub(crate) fn split(&mut self, number: u16, line: Line, at: Vertex) -> Result<u16, AllocError> {
         let vertex = number_of(self.vertices.len());
         let new = number_of(self.lines.len());
         self.vertices.push(at)?;
@@ -166,7 +160,7 @@ impl Plan {
         Ok(new)
     }
 
-    /// The number of the vertex at the place.
+    /// The number of the vertex at the place, if one stands there.
     pub(crate) fn vertex_at(&self, place: Vertex) -> Option<u16> {
         let index = self.vertices.iter().position(|vertex| *vertex == place)?;
         Some(number_of(index))
@@ -186,7 +180,7 @@ impl Plan {
     }
 
     /// The lines with the places of their ends.
-    pub(crate) fn placed_lines(&self, alloc: Global) -> Result<Vec<PlacedLine>, MapError> {
+    pub(crate) fn placed_lines(&self, alloc: Global) -> Result<Vec<PlacedLine>, AllocError> {
         let mut placed = Vec::with_capacity(alloc, self.lines.len())?;
         let mut number = 0u32;
         for line in &self.lines {

@@ -1,16 +1,31 @@
 //! What is round a border before anything is drawn.
 ghost use Rattle.std.specs.Prelude.{◌≡◌, IfErr};
+ghost use Rattle.std.specs.List.{list_any};
 ghost use Rattle.map_areas.specs.Apart.{doubled};
-ghost use Rattle.map_areas.specs.Refusals.{IsAreaRefusal, IsOfSectors, are_several, is_border_part};
+ghost use Rattle.map_areas.specs.Refusals.{IsAreaRefusal, IsOfSectors, are_several, is_border_part, leads_along};
 ghost use Rattle.map_plane.specs.Places.{placed_lines};
 
 use crate::border::Border;
 use crate::error::{AreaError, Part};
-use crate::ways::{Ground, is_clear, is_lined, is_same, sector_on_right, way};
-use map_plane::PlacedLine;
+use crate::ways::{Ground, is_clear, is_same, runs_along, runs_with, sector_on_right, way};
+use map_plane::{PlacedLine, is_at};
 use map_tables::Map;
 
-// Whether the part runs along an edge, meets nothing between its ends, and has its sector on its right.
+// Whether the way leads along the edge, and in its direction.
+fn leads_along(way: &PlacedLine, edge: &PlacedLine) -> bool
+    ensures { result ≡ leads_along way.now edge.now }
+{
+    runs_along(way, edge) && runs_with(way, edge) && !is_at(way.from, way.to)
+}
+
+// Whether the way leads so along one of the edges.
+fn is_of_border(edges: &[PlacedLine], way: &PlacedLine) -> bool
+    ensures { result ≡ list_any (leads_along way.now) edges.now }
+{
+    edges.iter().any(|edge| leads_along(way, edge))
+}
+
+// Whether the part leads along an edge, meets nothing between its ends, and has its sector on its right.
 fn is_border_part(map: &Map, ground: &Ground, edges: &[PlacedLine], part: &Part) -> bool
     requires vertices { ground.now.vertices.items ≡ map.now.tables.vertices }
     requires lines { ground.now.lines.items ≡ placed_lines map.now.tables }
@@ -18,7 +33,7 @@ fn is_border_part(map: &Map, ground: &Ground, edges: &[PlacedLine], part: &Part)
     ensures { result ≡ is_border_part map.now.tables edges.now part.now }
 {
     let way = way(part.from, part.to);
-    is_lined(edges, &way)
+    is_of_border(edges, &way)
         && is_clear(map, ground, &way)
         && is_same(sector_on_right(map, ground, &way), part.sector)
 }

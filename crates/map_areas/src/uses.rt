@@ -1,7 +1,6 @@
 //! How many lines use each side of a map.
 use crate::plan::Plan;
-use map_tables::MapError;
-use std::alloc::Global;
+use std::alloc::{AllocError, Global};
 
 /// For each side, how often a line names it.
 #[derive(Drop)]
@@ -11,7 +10,7 @@ pub(crate) struct Uses {
 
 impl Uses {
     /// How often the lines of the plan name each side.
-    pub(crate) fn of(alloc: Global, plan: &Plan) -> Result<Uses, MapError> {
+    pub(crate) fn of(alloc: Global, plan: &Plan) -> Result<Uses, AllocError> {
         let counts = vec![in alloc; 0u32; plan.sides.len()]?;
         let mut uses = Uses { counts };
         for line in &plan.lines {
@@ -36,7 +35,7 @@ impl Uses {
     }
 
     /// A new side, which one line will name.
-    pub(crate) fn push(&mut self) -> Result<(), MapError> {
+    pub(crate) fn push(&mut self) -> Result<(), AllocError> {
         self.counts.push(1)?;
         Ok(())
     }

@@ -5,7 +5,7 @@ ghost use Rattle.map_areas.specs.Stays.{opened_flags};
 use crate::plan::Plan;
 use crate::uses::Uses;
 use lump_records::{Line, NO_SIDE, Name8, Side};
-use map_tables::MapError;
+use std::alloc::AllocError;
 
 /// The name that means "no texture".
 pub(crate) const NO_TEXTURE: Name8 = Name8 {
@@ -62,14 +62,19 @@ pub(crate) fn opened_flags(flags: u16) -> u16
 }
 
 /// Adds a side that one line will have.
-pub(crate) fn add_side(plan: &mut Plan, uses: &mut Uses, side: Side) -> Result<u16, MapError> {
+pub(crate) fn add_side(plan: &mut Plan, uses: &mut Uses, side: Side) -> Result<u16, AllocError> {
     let number = plan.add_side(side)?;
     uses.push()?;
     Ok(number)
 }
 
 // Changes a side for one line alone, and answers the side's number: a new one if another line has it too.
-fn change_side(plan: &mut Plan, uses: &mut Uses, number: u16, side: Side) -> Result<u16, MapError> {
+fn change_side(
+    plan: &mut Plan,
+    uses: &mut Uses,
+    number: u16,
+    side: Side,
+) -> Result<u16, AllocError> {
     if uses.are_several(number) {
         uses.take(number);
         return add_side(plan, uses, side);
@@ -85,14 +90,15 @@ pub(crate) fn face(
     number: u16,
     on_right: bool,
     sector: u16,
-) -> Result<(), MapError> {
-    let line = plan.line(number)?;
-    let old = if on_right { line.right } else { line.left };
-    let side = Side {
-        sector,
-        ..plan.side(old)?
+) -> Result<(), AllocError> {
+    let Some(line) = plan.line(number) else {
+        return Ok(());
     };
-    let new = change_side(plan, uses, old, side)?;
+    let old = if on_right { line.right } else { line.left };
+    let Some(side) = plan.side(old) else {
+        return Ok(());
+    };
+    let new = change_side(plan, uses, old, Side { sector, ..side })?;
     if new == old {
         return Ok(());
     }
@@ -111,10 +117,14 @@ pub(crate) fn open(
     number: u16,
     wall: Name8,
     sector: u16,
-) -> Result<(), MapError> {
-    let line = plan.line(number)?;
-    let side = opened(&plan.side(line.right)?);
-    let right = change_side(plan, uses, line.right, side)?;
+) -> Result<(), AllocError> {
+    let Some(line) = plan.line(number) else {
+        return Ok(());
+    };
+    let Some(side) = plan.side(line.right) else {
+        return Ok(());
+    };
+    let right = change_side(plan, uses, line.right, opened(&side))?;
     let left = add_side(plan, uses, open_side(wall, sector))?;
     let line = Line {
         flags: opened_flags(line.flags),
@@ -132,7 +142,7 @@ pub(crate) fn add_wall(
     v2: u16,
     right: u16,
     left: u16,
-) -> Result<u16, MapError> {
+) -> Result<u16, AllocError> {
     plan.add_line(Line {
         v1,
         v2,

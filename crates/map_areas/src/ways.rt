@@ -13,8 +13,8 @@ use map_plane::{
     PlacedLine, boxes_meet, crosses, ends_at, is_on, nearest, placed_lines, sector_shown,
     spans_meet,
 };
-use map_tables::{Map, MapError};
-use std::alloc::Global;
+use map_tables::Map;
+use std::alloc::{AllocError, Global};
 
 /// The vertices and the lines of a map, and the lines at twice the size.
 #[derive(Drop)]
@@ -25,7 +25,7 @@ pub(crate) struct Ground {
 }
 
 /// The vertices and the lines of the map, as they are.
-pub(crate) fn ground_of(alloc: Global, map: &Map) -> Result<Ground, MapError>
+pub(crate) fn ground_of(alloc: Global, map: &Map) -> Result<Ground, AllocError>
     ensures vertices { IfOk result (λ ground. ground.vertices.items ≡ map.now.tables.vertices) }
     ensures lines { IfOk result (λ ground. ground.lines.items ≡ placed_lines map.now.tables) }
     ensures doubled { IfOk result (λ ground.

@@ -17,7 +17,7 @@ mod unread;
 mod words;
 
 pub use command::{Command, LineSplit, RoomPlan};
-pub use decision::growth_of;
+pub use decision::{can_do, growth_of};
 pub use error::CommandError;
 pub use keywords::{Head, LAST_ITEM, LAST_SECTOR, head_text, kind_in, last_number};
 pub use project::{

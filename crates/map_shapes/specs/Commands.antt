@@ -1,8 +1,9 @@
 -- The commands that a shape becomes over a map, the number that it answers, and why it is refused.
 use Rattle.std.specs.Prelude.{◌≡◌, ◌⊎◌, ℕ, List, [], ◌∷◌, Option, Some, None, MatchOption, option_map, slice_get, length}
-use Rattle.std.specs.Bool.{⊤}
 use Rattle.std.specs.List.{join_with_byte}
+use Rattle.map_areas.specs.Areas.{AcceptsArea, AcceptsPillar, RefusesArea, RefusesPillar}
 use Rattle.map_areas.specs.Drawn.{AreTaken}
+use Rattle.map_areas.specs.declared.error.AreaError.{AreaError}
 use Rattle.map_commands.specs.Errors as of_commands
 use Rattle.map_commands.specs.Spelling.{head_word, item_words}
 use Rattle.map_commands.specs.ProjectCommands.{project_spelling}
@@ -19,6 +20,7 @@ use Rattle.map_shapes.specs.Doors.{door_commands, door_faults}
 use Rattle.map_shapes.specs.Errors.{code_of, no_memory}
 use Rattle.map_shapes.specs.Shapes.{SpellsShape, shape_fault_of}
 use Rattle.map_shapes.specs.declared.error.ShapeError.{ShapeError}
+use Rattle.map_shapes.specs.declared.error.ShapeError.TheVariants as refusal
 use Rattle.map_shapes.specs.declared.shape.Change.{Change}
 use Rattle.map_shapes.specs.declared.shape.Door.{Door}
 use Rattle.map_shapes.specs.declared.shape.Shape.{Shape}
@@ -53,16 +55,21 @@ MakesDoor m d commands = (least (door_faults m d) ≡ None)
 
 -- the commands are those that draw the shape onto the map
 abbrev pub Becomes : Tables → Shape → List Command → Type 0
-Becomes m (Area a) commands = AreTaken m commands
-Becomes m (Pillar p) commands = AreTaken m commands
+Becomes m (Area a) commands = AcceptsArea m a.corners.items commands
+Becomes m (Pillar p) commands = AcceptsPillar m p.corners.items commands
 Becomes m (Sliding d) commands = MakesDoor m d commands
 Becomes m (Changing c) commands =
     (command : Command) × (commands ≡ command ∷ []) × Changes m c command
 
+-- the refusal is that of an area or a pillar, with such a reason
+abbrev pub IsOfArea : (AreaError → Type 0) → ShapeError → Type 0
+IsOfArea Reason (refusal.Area e) = Reason e
+IsOfArea Reason e = ⊥
+
 -- why a shape can't be drawn onto the map
 abbrev pub RefusesShape : Tables → Shape → ShapeError → Type 0
-RefusesShape m (Area a) e = ⊤
-RefusesShape m (Pillar p) e = ⊤
+RefusesShape m (Area a) e = IsOfArea (RefusesArea m a.corners.items) e
+RefusesShape m (Pillar p) e = IsOfArea (RefusesPillar m p.corners.items) e
 RefusesShape m (Sliding d) e = least (door_faults m d) ≡ Some (code_of e)
 RefusesShape m (Changing c) e = RefusesChange m c e
 

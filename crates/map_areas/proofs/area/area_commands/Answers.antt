@@ -1,15 +1,23 @@
-use Rattle.std.proofs.Common.{◌≡◌, List, true, ◌∙◌, ap, subst}
-use Rattle.std.specs.Prelude.{IfOk}
+use Rattle.std.proofs.Common.{◌≡◌, List, None, true, sym, ◌∙◌, ap, subst}
 use Rattle.lump_records.specs.declared.records.Vertex.{Vertex}
 use Rattle.map_plane.specs.declared.places.PlacedLine.{PlacedLine}
+use Rattle.map_plane.specs.Places.{placed_lines}
+use Rattle.map_areas.specs.Apart.{doubled}
 use Rattle.map_areas.specs.Areas.{DrawsArea}
 use Rattle.map_areas.specs.Drawn.{drawn}
-use Rattle.map_areas.specs.Outlines.{edges_round}
+use Rattle.map_areas.specs.Outlines.{JudgesRefusal, bad_corner, edges_round, outline_edges}
+use Rattle.map_areas.specs.Refusals.{CrossWhole, IsAreaRefusal}
 use Rattle.map_areas.proofs.area.area_commands.Goals as goal
 
-pub returns-clause-area : goal.returns-clause-area
-returns-clause-area c =
+pub returns-clause-ok : goal.returns-clause-ok
+returns-clause-ok c =
     let m = c.args.map.now.tables in
-    let es : c.in_ok-edges.edges.items ≡ edges_round true c.args.area.now.corners.items =
-    c.in_ok-edges.ensures.edges ∙ ap (λ (cs : List Vertex). edges_round true cs) c.deref.ensures.value in
-    subst (λ (gs : List PlacedLine). IfOk c.commands_within.result (λ commands. DrawsArea gs m (drawn m commands.items))) es c.commands_within.ensures.area
+    let cs = c.args.area.now.corners.items in
+    let es : c.in_ok-edges.edges.items ≡ edges_round true cs =
+    c.in_ok-edges.ensures.edges ∙ ap (λ (vs : List Vertex). edges_round true vs) c.deref.ensures.value in
+    record {
+      polygon = subst (λ (vs : List Vertex). bad_corner (outline_edges vs) ≡ None) c.deref.ensures.value c.in_ok-edges.ensures.polygon;
+      whole = subst (λ (gs : List PlacedLine). CrossWhole (placed_lines m) gs) es c.in_ok-commands.ensures.whole;
+      taken = c.in_ok-commands.ensures.taken;
+      area = subst (λ (gs : List PlacedLine). DrawsArea gs m (drawn m c.in_ok-commands.commands.items)) es c.in_ok-commands.ensures.area;
+    }

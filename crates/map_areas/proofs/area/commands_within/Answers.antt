@@ -31,5 +31,5 @@ returns-clause-area c =
 
 pub look_at-requires-clause-others : goal.look_at-requires-clause-others
 look_at-requires-clause-others c =
-    others_changing c.as_slice-all.result.now c.deref-3.result.now c.args.map.now.tables c.in_ok-new.new.tables
-    (c.deref-3.ensures.value ∙ c.in_ok-changing.ensures) c.in_ok-new.ensures.others
+    others_changing c.as_slice-all.result.now c.deref-4.result.now c.args.map.now.tables c.in_ok-new.new.tables
+    (c.deref-4.ensures.value ∙ c.in_ok-changing.ensures) c.in_ok-new.ensures.others

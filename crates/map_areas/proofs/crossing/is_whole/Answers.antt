@@ -1,4 +1,4 @@
-use Rattle.std.proofs.Common.{◌≡◌, ◌∙◌, ◌%◌, nat_eq, ap, sym}
+use Rattle.std.proofs.Common.{◌∙◌, ◌%◌, nat_eq, ap, sym}
 use Rattle.map_areas.proofs.Crossed.{no_rest}
 use Rattle.map_areas.proofs.crossing.is_whole.Goals as goal
 
