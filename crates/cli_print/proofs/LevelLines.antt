@@ -25,6 +25,7 @@ use Rattle.cli_refusals.specs.declared.refusal.Refusal.TheVariants.{Build, Level
 use Rattle.cli_print.specs.LevelLines.{AreLevelLines, AreLinesOf, IsMapRefusal, IsWadChecked, IsWadLintedOf, WritesLevel, level_map, map_refusal, no_map_text}
 use Rattle.cli_print.specs.Checking.{IsCheckedOf}
 use Rattle.cli_print.specs.Linting.{WritesRemarks, remarks}
+use Rattle.cli_print.specs.Origins.{no_origin}
 use Rattle.cli_print.specs.ShownNames.{shown}
 use Rattle.cli_print.specs.WantedLevels.{AreWanted, IsWanted}
 use Rattle.cli_print.proofs.Linting.{none_written, total_told}
@@ -36,7 +37,7 @@ abbrev pub no_map_line : Name8 → ImportError → List ℕ
 no_map_line name e = map shown (name_text name) ++ no_map_text e
 
 lines_by : (wants : LintWants) (wad : List ℕ) (l : LevelEntries) (o : Option ImportError) → map_refusal wad l ≡ o → (lines : List (List ℕ)) × AreLevelLines wants wad l lines
-lines_by wants wad l None is = (remarks wants (level_map wad l), inl (is, refl))
+lines_by wants wad l None is = (remarks no_origin wants (level_map wad l), inl (is, refl))
 lines_by wants wad l (Some e) is = (no_map_line (entry_name wad l.marker) e ∷ [], inr (e, is, refl))
 
 -- of each level there is something to say, or it has no lines
@@ -130,8 +131,8 @@ levels_told wants wad name ls count status u v w x wanted (lines, are, told) is 
 -- ---- Findings
 
 pub level_checked : (wad : List ℕ) (name : Option (List ℕ)) (how : Result ℕ Refusal) (u w : Option (List ℕ)) (l : LevelEntries) (m : Tables) → IsWanted wad name l
-    → map_refusal wad l ≡ None → m ≡ level_map wad l → IsCheckedOf m how u w → IsWadChecked wad name how u w
-level_checked wad name (Ok status) u w l m wanted none is done = (l, wanted, none, subst (λ (t : Tables). IsCheckedOf t (Ok status) u w) is done)
+    → map_refusal wad l ≡ None → m ≡ level_map wad l → IsCheckedOf no_origin m how u w → IsWadChecked wad name how u w
+level_checked wad name (Ok status) u w l m wanted none is done = (l, wanted, none, subst (λ (t : Tables). IsCheckedOf no_origin t (Ok status) u w) is done)
 level_checked wad name (Err (Lines e)) u w l m wanted none is lost = lost
 level_checked wad name (Err (Project e)) u w l m wanted none is never = absurd never
 level_checked wad name (Err (Level e)) u w l m wanted none is never = absurd never

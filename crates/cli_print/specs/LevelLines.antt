@@ -20,6 +20,7 @@ use Rattle.cli_refusals.specs.declared.refusal.Refusal.TheVariants as of
 use Rattle.cli_print.specs.Checking.{IsCheckedOf}
 use Rattle.cli_print.specs.Choosing.{ChosenWords, LintWants}
 use Rattle.cli_print.specs.Linting.{AreTold, IsNamedBy, RefusesNaming, WritesRemarks, remarks}
+use Rattle.cli_print.specs.Origins.{no_origin}
 use Rattle.cli_print.specs.ShownNames.{shown}
 use Rattle.cli_print.specs.WantedLevels.{AreWanted, IsWanted, RefusesAllWanted, RefusesWanted}
 
@@ -46,7 +47,7 @@ IsMapRefusal wad l _ = ⊥
 abbrev pub AreLevelLines : LintWants → List ℕ → LevelEntries → List (List ℕ) → Type 0
 AreLevelLines wants wad l lines =
     ((map_refusal wad l ≡ None)
-    × (lines ≡ remarks wants (level_map wad l)))
+    × (lines ≡ remarks no_origin wants (level_map wad l)))
     ⊎ ((e : ImportError) × (map_refusal wad l ≡ Some e)
     × (lines ≡ (map shown (name_text (entry_name wad l.marker)) ++ no_map_text e) ∷ []))
 
@@ -90,7 +91,7 @@ abbrev pub IsWadChecked : List ℕ → Option (List ℕ) → Result ℕ Refusal 
     → Option (List ℕ) → Type 0
 IsWadChecked wad name (Ok status) writer-old writer-new =
     (l : LevelEntries) × IsWanted wad name l × (map_refusal wad l ≡ None)
-    × IsCheckedOf (level_map wad l) (Ok status) writer-old writer-new
+    × IsCheckedOf no_origin (level_map wad l) (Ok status) writer-old writer-new
 IsWadChecked wad name (Err (of.NotAMap e)) writer-old writer-new =
     (l : LevelEntries) × IsWanted wad name l × (map_refusal wad l ≡ Some e)
     × Keeps writer-old writer-new

@@ -6,6 +6,7 @@ pub mod LevelPicture
 pub mod LevelTree
 pub mod Linting
 pub mod Marking
+pub mod Origins
 pub mod Picturing
 pub mod Reading
 pub mod ShownNames

@@ -4,18 +4,18 @@ use Rattle.std.specs.Io.KnownBytes.{Appends, Keeps}
 use Rattle.lump_records.specs.Names.{name_text}
 use Rattle.map_tables.specs.Projects.{MapsView, project_of}
 use Rattle.map_tables.specs.Tables.{Tables}
+use Rattle.map_tables.specs.declared.kind.Kind.{Kind}
 use Rattle.map_checks.specs.Findings.{findings}
-use Rattle.map_checks.specs.Texts.{finding_text}
 use Rattle.wad_levels.specs.Graphics.{GraphicNames, RefusesGraphics, graphics, graphics_refusal, graphics_view}
 use Rattle.wad_levels.specs.declared.graphics.Graphics.{Graphics}
 use Rattle.map_lint.specs.Graphics.{graphic_warnings}
 use Rattle.map_lint.specs.Rules.{warnings}
-use Rattle.map_lint.specs.Texts.{warning_text}
 use Rattle.map_lint.specs.declared.warning.Warning.{Warning}
 use Rattle.map_dump.specs.Texts.{WritesFront, text_of}
 use Rattle.cli_refusals.specs.Refusals.{EndsReading}
 use Rattle.cli_refusals.specs.Statuses.{status_after}
 use Rattle.cli_print.specs.Choosing.{ChosenWords, LintWants, chosen_findings, chosen_warnings}
+use Rattle.cli_print.specs.Origins.{finding_told, warning_told}
 use Rattle.cli_print.specs.Picturing.{is_called}
 use Rattle.cli_print.specs.Reading.{ReadsAll}
 use Rattle.run_edit.specs.Texts.{total_text}
@@ -39,16 +39,17 @@ abbrev pub wanted_warnings : LintWants → Tables → List Warning
 wanted_warnings wants m = chosen_warnings wants.words (warnings m ++ warned_by wants.names m)
 
 -- what there is to say of a map: its findings, then its warnings, then those of its flats and
--- textures, of all these what is asked for, each behind the map's name
-abbrev pub remarks : LintWants → Tables → List (List ℕ)
-remarks wants m =
+-- textures, of all these what is asked for, each behind the map's name and with the origins of its
+-- items
+abbrev pub remarks : (List ℕ → Kind → ℕ → List ℕ) → LintWants → Tables → List (List ℕ)
+remarks origin wants m =
     map (behind (name_text m.name))
-    (map finding_text (chosen_findings wants.words (findings m))
-    ++ map warning_text (wanted_warnings wants m))
+    (map (finding_told origin (name_text m.name)) (chosen_findings wants.words (findings m))
+    ++ map (warning_told origin (name_text m.name)) (wanted_warnings wants m))
 
 -- what there is to say of maps, one after another
-abbrev pub lint_of : LintWants → List Tables → List (List ℕ)
-lint_of wants ms = flat_map (remarks wants) ms
+abbrev pub lint_of : (List ℕ → Kind → ℕ → List ℕ) → LintWants → List Tables → List (List ℕ)
+lint_of origin wants ms = flat_map (remarks origin wants) ms
 
 -- these lines and their number
 abbrev pub lint_text : List (List ℕ) → List ℕ
@@ -76,21 +77,21 @@ AreTold lines (Err (of.Lines WriterFailed)) writer-old writer-new = Unit {0}
 AreTold lines _ writer-old writer-new = ⊥
 
 -- what there is to say of these maps was told
-abbrev pub IsLintedOf : LintWants → MapsView → Result ℕ Refusal → Option (List ℕ)
-    → Option (List ℕ) → Type 0
-IsLintedOf wants maps how writer-old writer-new =
-    AreTold (lint_of wants (project_of maps).maps) how writer-old writer-new
+abbrev pub IsLintedOf : (List ℕ → Kind → ℕ → List ℕ) → LintWants → MapsView → Result ℕ Refusal
+    → Option (List ℕ) → Option (List ℕ) → Type 0
+IsLintedOf origin wants maps how writer-old writer-new =
+    AreTold (lint_of origin wants (project_of maps).maps) how writer-old writer-new
 
 -- the same of the map of the name alone, or the project has none; or of all where none is named
-abbrev pub IsLintedIn : Option (List ℕ) → LintWants → MapsView → Result ℕ Refusal
-    → Option (List ℕ) → Option (List ℕ) → Type 0
-IsLintedIn None wants maps how writer-old writer-new =
-    IsLintedOf wants maps how writer-old writer-new
-IsLintedIn (Some name) wants maps how writer-old writer-new =
+abbrev pub IsLintedIn : (List ℕ → Kind → ℕ → List ℕ) → Option (List ℕ) → LintWants → MapsView
+    → Result ℕ Refusal → Option (List ℕ) → Option (List ℕ) → Type 0
+IsLintedIn origin None wants maps how writer-old writer-new =
+    IsLintedOf origin wants maps how writer-old writer-new
+IsLintedIn origin (Some name) wants maps how writer-old writer-new =
     ((how ≡ Err of.NoSuchMap) × (find (is_called name) (project_of maps).maps ≡ None)
     × Keeps writer-old writer-new)
     ⊎ ((m : Tables) × (find (is_called name) (project_of maps).maps ≡ Some m)
-    × AreTold (remarks wants m) how writer-old writer-new)
+    × AreTold (remarks origin wants m) how writer-old writer-new)
 
 -- these are the names of the flats and textures of some WAD, where one is asked for, and else none
 abbrev pub IsNamedBy : Bool → Option GraphicNames → Type 0
@@ -106,12 +107,13 @@ RefusesNaming _ = ⊥
 
 -- the flats and textures of the WAD that is asked for are not named, and nothing was written; or
 -- this was done with the maps, the words, and the names of some WAD, where one is asked for
-abbrev pub IsLintedBy : Bool → ChosenWords → Option (List ℕ) → MapsView → Result ℕ Refusal
-    → Option (List ℕ) → Option (List ℕ) → Type 0
-IsLintedBy asked words name maps how writer-old writer-new =
+abbrev pub IsLintedBy : (List ℕ → Kind → ℕ → List ℕ) → Bool → ChosenWords → Option (List ℕ)
+    → MapsView → Result ℕ Refusal → Option (List ℕ) → Option (List ℕ) → Type 0
+IsLintedBy origin asked words name maps how writer-old writer-new =
     ((asked ≡ true) × MatchResult how (λ status. ⊥) RefusesNaming × Keeps writer-old writer-new)
     ⊎ ((names : Option GraphicNames) × IsNamedBy asked names
-    × IsLintedIn name (record { names = names; words = words }) maps how writer-old writer-new)
+    × IsLintedIn origin name (record { names = names; words = words }) maps how
+    writer-old writer-new)
 
 -- the flats and textures of the WAD that is all that the reader gave are named; or it was not read
 -- to its end, or is refused

@@ -10,6 +10,7 @@ ghost use Rattle.map_tables.specs.Projects.{project_of};
 ghost use Rattle.cli_print.specs.LevelLines.{IsMapRefusal, IsWadChecked, level_map, map_refusal};
 
 use crate::findings::tell;
+use crate::origin::NoOrigin;
 use crate::wanted::wanted_level;
 use cli_refusals::Refusal;
 use run_edit::{EditorError, InspectError};
@@ -74,7 +75,7 @@ fn tell_wanted<W: Write>(
         Err(error) => return Err(Refusal::Level(InspectError::Level(error))),
     };
     match map_or_refusal(alloc, wad, level) {
-        Ok(found) => tell(alloc, found.maps.current(), writer),
+        Ok(found) => tell(alloc, found.maps.current(), &NoOrigin, writer),
         Err(refusal) => Err(refusal),
     }
 }

@@ -12,6 +12,7 @@ ghost use Rattle.cli_print.specs.ShownNames.{shown};
 
 use crate::choosing::{Choice, Wants};
 use crate::level_maps::map_of_level;
+use crate::origin::NoOrigin;
 use crate::remarks::{plus, write_map};
 use crate::shown_names::write_shown;
 use crate::wad_graphics::graphics_given;
@@ -89,7 +90,14 @@ fn write_level<W: Write>(
         result before (W.contents writer.old) (W.contents writer.new) }
 {
     match map_of_level(alloc, wad, level) {
-        Ok(found) => write_map(alloc, found.maps.current(), wants, before, writer),
+        Ok(found) => write_map(
+            alloc,
+            found.maps.current(),
+            wants,
+            &NoOrigin,
+            before,
+            writer,
+        ),
         Err(ImportError::OutOfMemory) => Err(EditorError::OutOfMemory),
         Err(error) => {
             let name = wad.name(level.marker);

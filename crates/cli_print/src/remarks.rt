@@ -1,73 +1,28 @@
 //! What `lint` writes: the findings and warnings of each map; with a WAD also the flats and textures that it lacks.
-ghost use Rattle.std.specs.Prelude.{◌≡◌, ◌≤◌, ◌+◌, ◌++◌, List, ℕ, IfErr, IfOk, MatchResult, Some, flat_map, is_some, length, option_map, slice_get};
+ghost use Rattle.std.specs.Prelude.{◌≡◌, ◌≤◌, ◌+◌, ◌++◌, IfErr, IfOk, Some, is_some, option_map, slice_get};
 ghost use Rattle.std.specs.Option.{option_copied};
-ghost use Rattle.std.specs.Io.KnownBytes.{Appends};
-ghost use Rattle.map_checks.specs.Texts.{finding_text};
-ghost use Rattle.map_dump.specs.Texts.{with_lf};
 ghost use Rattle.wad_levels.specs.Graphics.{graphics_view};
 ghost use Rattle.map_lint.specs.Rules.{warnings};
-ghost use Rattle.map_lint.specs.Texts.{warning_text};
 ghost use Rattle.map_tables.specs.Projects.{project_of};
 ghost use Rattle.map_tables.specs.Tables.{Tables};
-ghost use Rattle.cli_print.specs.Linting.{AreTold, IsLintedBy, IsLintedIn, IsLintedOf, WritesRemarks, behind, lint_of, remarks, wanted_warnings, warned_by};
+ghost use Rattle.cli_print.specs.Linting.{AreTold, IsLintedBy, IsLintedIn, IsLintedOf, WritesRemarks, lint_of, remarks, wanted_warnings, warned_by};
 ghost use Rattle.cli_print.specs.Choosing.{choice_view, wants_view};
-ghost use Rattle.run_edit.specs.declared.error.EditorError.TheVariants.{OutOfMemory, WriterFailed};
+ghost use Rattle.run_edit.specs.declared.error.EditorError.TheVariants.{OutOfMemory};
 
 use crate::choosing::{Choice, Wants, chosen_findings, chosen_warnings};
+use crate::origin::Origin;
 use crate::pictures::map_called;
+use crate::told::lines_told;
 use crate::wad_graphics::graphics_given;
 use cli_files::Cause;
 use cli_refusals::{Refusal, status_after};
-use map_checks::Finding;
 use map_lint::{Warning, lint_graphics};
 use map_tables::{Map, Maps};
 use run_edit::{EditorError, write_total};
 use std::alloc::Global;
-use std::fmt::Display;
 use std::fs::Files;
 use std::io::Write;
 use wad_levels::Graphics;
-
-// Writes a line: the name, a space and the remark.
-fn write_remark<T: Display, W: Write>(
-    name: &[u8],
-    remark: &T,
-    writer: &mut W,
-) -> Result<(), EditorError>
-    ensures { (text : List ℕ) → T.output remark.now ≡ Some text → MatchResult result
-        (λ _. Appends (W.contents writer.old) (W.contents writer.new)
-        (with_lf (behind name.now text)))
-        (λ e. e ≡ WriterFailed) }
-{
-    match writer.write_all(name) {
-        Ok(()) => {}
-        Err(_) => return Err(EditorError::WriterFailed),
-    }
-    match write!(writer, " {remark}\n") {
-        Ok(()) => Ok(()),
-        Err(_) => Err(EditorError::WriterFailed),
-    }
-}
-
-// Writes a line for each remark.
-fn write_each<T: Display, W: Write>(
-    name: &[u8],
-    found: &[T],
-    writer: &mut W,
-) -> Result<(), EditorError>
-    ensures { (text : T → List ℕ) → ((t : T) → T.output t ≡ Some (text t)) → MatchResult result
-        (λ _. Appends (W.contents writer.old) (W.contents writer.new)
-        (flat_map (λ t. with_lf (behind name.now (text t))) found.now))
-        (λ e. e ≡ WriterFailed) }
-{
-    for remark in found {
-        match write_remark(name, remark, writer) {
-            Ok(()) => {}
-            Err(error) => return Err(error),
-        }
-    }
-    Ok(())
-}
 
 /// The sum, if it fits 32 bits. No memory holds more findings than that.
 pub(crate) fn plus(count: u32, more: usize) -> Result<u32, EditorError>
@@ -80,25 +35,6 @@ pub(crate) fn plus(count: u32, more: usize) -> Result<u32, EditorError>
     match count.checked_add(more) {
         Some(sum) => Ok(sum),
         None => Err(EditorError::OutOfMemory),
-    }
-}
-
-// Writes a line for each finding, and then for each warning.
-fn write_both<W: Write>(
-    name: &[u8],
-    found: &[Finding],
-    warned: &[Warning],
-    writer: &mut W,
-) -> Result<(), EditorError>
-    ensures { MatchResult result
-        (λ _. Appends (W.contents writer.old) (W.contents writer.new)
-        (flat_map (λ f. with_lf (behind name.now (finding_text f))) found.now
-        ++ flat_map (λ w. with_lf (behind name.now (warning_text w))) warned.now))
-        (λ e. e ≡ WriterFailed) }
-{
-    match write_each(name, found, writer) {
-        Ok(()) => write_each(name, warned, writer),
-        Err(error) => Err(error),
     }
 }
 
@@ -152,62 +88,65 @@ fn wanted_warnings(alloc: Global, map: &Map, wants: Wants<'_>) -> Result<Vec<War
 }
 
 /// Writes the lines about a map, and adds their number to the count.
-pub(crate) fn write_map<W: Write>(
+pub(crate) fn write_map<O: Origin, W: Write>(
     alloc: Global,
     map: &Map,
     wants: Wants<'_>,
+    origin: &O,
     before: u32,
     writer: &mut W,
 ) -> Result<u32, EditorError>
     ensures { WritesRemarks result before
-        (remarks (wants_view wants.entry) map.now.tables)
+        (remarks (O.origin origin.now) (wants_view wants.entry) map.now.tables)
         (W.contents writer.old) (W.contents writer.new) }
 {
     let found = chosen_findings(alloc, map, wants.choice)?;
     let warned = wanted_warnings(alloc, map, wants)?;
     let with_findings = plus(before, found.len())?;
     let count = plus(with_findings, warned.len())?;
-    let name = map.name();
-    match write_both(name.text(), &found, &warned, writer) {
+    let text = lines_told(alloc, &map.name(), &found, &warned, origin)?;
+    match writer.write_all(&text) {
         Ok(()) => Ok(count),
-        Err(error) => Err(error),
+        Err(_) => Err(EditorError::WriterFailed),
     }
 }
 
 // Writes the lines about the map with the number, if there is one.
-fn write_nth<W: Write>(
+fn write_nth<O: Origin, W: Write>(
     alloc: Global,
     maps: &Maps,
     wants: Wants<'_>,
+    origin: &O,
     n: u32,
     before: u32,
     writer: &mut W,
 ) -> Result<u32, EditorError>
     ensures { (m : Tables) → slice_get (project_of maps.now).maps n ≡ Some m
         → WritesRemarks result before
-        (remarks (wants_view wants.entry) m)
+        (remarks (O.origin origin.now) (wants_view wants.entry) m)
         (W.contents writer.old) (W.contents writer.new) }
 {
     match maps.at(n) {
-        Some(map) => write_map(alloc, map, wants, before, writer),
+        Some(map) => write_map(alloc, map, wants, origin, before, writer),
         None => Ok(before),
     }
 }
 
 // Writes the lines about each map, and counts them.
-fn write_maps<W: Write>(
+fn write_maps<O: Origin, W: Write>(
     alloc: Global,
     maps: &Maps,
     wants: Wants<'_>,
+    origin: &O,
     writer: &mut W,
 ) -> Result<u32, EditorError>
     ensures { WritesRemarks result 0
-        (lint_of (wants_view wants.entry) (project_of maps.now).maps)
+        (lint_of (O.origin origin.now) (wants_view wants.entry) (project_of maps.now).maps)
         (W.contents writer.old) (W.contents writer.new) }
 {
     let mut count = 0;
     for n in 0..maps.len() {
-        match write_nth(alloc, maps, wants, n, count, writer) {
+        match write_nth(alloc, maps, wants, origin, n, count, writer) {
             Ok(sum) => count = sum,
             Err(error) => return Err(error),
         }
@@ -216,17 +155,18 @@ fn write_maps<W: Write>(
 }
 
 // Writes the lines about the maps, then their number, and flushes the writer.
-fn tell_remarks<W: Write>(
+fn tell_remarks<O: Origin, W: Write>(
     alloc: Global,
     maps: &Maps,
     wants: Wants<'_>,
+    origin: &O,
     writer: &mut W,
 ) -> Result<u8, Refusal>
     ensures small { IfOk result (λ s. s ≤ 3) }
-    ensures told { IsLintedOf (wants_view wants.entry) maps.now result
+    ensures told { IsLintedOf (O.origin origin.now) (wants_view wants.entry) maps.now result
         (W.contents writer.old) (W.contents writer.new) }
 {
-    let count = write_maps(alloc, maps, wants, writer)?;
+    let count = write_maps(alloc, maps, wants, origin, writer)?;
     write_total(count, writer)?;
     match writer.flush() {
         Ok(()) => Ok(status_after(count)),
@@ -235,18 +175,19 @@ fn tell_remarks<W: Write>(
 }
 
 // Writes the lines about a map, then their number, and flushes the writer.
-fn tell_map<W: Write>(
+fn tell_map<O: Origin, W: Write>(
     alloc: Global,
     map: &Map,
     wants: Wants<'_>,
+    origin: &O,
     writer: &mut W,
 ) -> Result<u8, Refusal>
     ensures small { IfOk result (λ s. s ≤ 3) }
     ensures told { AreTold
-        (remarks (wants_view wants.entry) map.now.tables) result
+        (remarks (O.origin origin.now) (wants_view wants.entry) map.now.tables) result
         (W.contents writer.old) (W.contents writer.new) }
 {
-    let count = write_map(alloc, map, wants, 0, writer)?;
+    let count = write_map(alloc, map, wants, origin, 0, writer)?;
     write_total(count, writer)?;
     match writer.flush() {
         Ok(()) => Ok(status_after(count)),
@@ -255,41 +196,44 @@ fn tell_map<W: Write>(
 }
 
 // Writes the lines about the map with the name, or about all maps.
-fn tell_wanted<W: Write>(
+fn tell_wanted<O: Origin, W: Write>(
     alloc: Global,
     maps: &Maps,
     name: Option<&str>,
     wants: Wants<'_>,
+    origin: &O,
     writer: &mut W,
 ) -> Result<u8, Refusal>
     ensures small { IfOk result (λ s. s ≤ 3) }
-    ensures told { IsLintedIn (option_map (λ s. s.now) name.entry)
+    ensures told { IsLintedIn (O.origin origin.now) (option_map (λ s. s.now) name.entry)
         (wants_view wants.entry) maps.now result
         (W.contents writer.old) (W.contents writer.new) }
 {
     let Some(name) = name else {
-        return tell_remarks(alloc, maps, wants, writer);
+        return tell_remarks(alloc, maps, wants, origin, writer);
     };
     match map_called(maps, name.as_bytes()) {
-        Some(map) => tell_map(alloc, map, wants, writer),
+        Some(map) => tell_map(alloc, map, wants, origin, writer),
         None => Err(Refusal::NoSuchMap),
     }
 }
 
 /// Writes about the maps by number, or about the one with the name alone: the findings of `check`, then the warnings of
 /// `map_lint`, then, if a WAD is given, those of the flats and textures that it lacks; of all these what is asked for.
-/// Each line begins with the map's name; the number of these lines comes last. Or notes why the WAD can't be opened.
-pub fn tell_beside<E: AllocGlobal + Files, W: Write>(
+/// Each line begins with the map's name, and ends with the origins of its items; the number of these lines comes last.
+/// Or notes why the WAD can't be opened.
+pub fn tell_beside<E: AllocGlobal + Files, O: Origin, W: Write>(
     rt: &E,
     maps: &Maps,
     name: Option<&str>,
     iwad: Option<&str>,
     choice: Choice<'_>,
+    origin: &O,
     writer: &mut W,
     why: &mut Option<Cause>,
 ) -> Result<u8, Refusal>
     ensures small { IfOk result (λ s. s ≤ 3) }
-    ensures told { IsLintedBy (is_some iwad.entry) (choice_view choice.entry)
+    ensures told { IsLintedBy (O.origin origin.now) (is_some iwad.entry) (choice_view choice.entry)
         (option_map (λ s. s.now) name.entry) maps.now result
         (W.contents writer.old) (W.contents writer.new) }
 {
@@ -298,5 +242,5 @@ pub fn tell_beside<E: AllocGlobal + Files, W: Write>(
         names: names.as_ref(),
         choice,
     };
-    tell_wanted(rt.alloc(), maps, name, wants, writer)
+    tell_wanted(rt.alloc(), maps, name, wants, origin, writer)
 }

@@ -11,7 +11,7 @@ use Rattle.lump_text.specs.Shown.{shown_lines, shown_text}
 use Rattle.map_script.specs.Includes.{include_words, is_include, only_word}
 use Rattle.map_script.specs.Scripts.{script_lines}
 use Rattle.map_script.specs.Words.{text_words}
-use Rattle.run_canvas.specs.Canvases.{Drafted}
+use Rattle.run_canvas.specs.declared.canvas.Canvas as canvas
 use Rattle.run_canvas.specs.declared.error.ScriptError.{ScriptError}
 use Rattle.run_canvas.specs.declared.error.ScriptError.TheVariants as cut
 use Rattle.run_edit.specs.declared.error.EditorError.TheVariants.{OutOfMemory}
@@ -35,11 +35,11 @@ shows_before (Ok u) tells d x y kept (told, is, put) = (told, is, appends_before
 shows_before (Err cut.OutOfMemory) tells d x y kept stays = Keeps-trans d x y kept stays
 shows_before (Err cut.WriterFailed) tells d x y kept any = tt
 
-pub stopped_before : (first : Drafted) (lines : List (ℕ × List ℕ)) (files : List (List ℕ)) (how : Result ℕ Refusal) (d x y : Option (List ℕ)) → Keeps d x
-    → IsStoppedFrom first lines files how x y → IsStoppedFrom first lines files how d y
-stopped_before first lines files (Ok status) d x y kept (three, (stop, new, written, drawn, told, (line, file, is, in_file, shown))) =
-    (three, (stop, new, written, drawn, told, (line, file, is, in_file, shows_before told _ d x y kept shown)))
-stopped_before first lines files (Err refusal) d x y kept is = is
+pub stopped_before : {S : Type 0} (facts : canvas.Ghosts S) (first : S) (lines : List (ℕ × List ℕ)) (files : List (List ℕ)) (how : Result ℕ Refusal) (d x y : Option (List ℕ)) → Keeps d x
+    → IsStoppedFrom facts first lines files how x y → IsStoppedFrom facts first lines files how d y
+stopped_before facts first lines files (Ok status) d x y kept (three, (stop, new, written, drawn, told, mid, (line, file, is, in_file, shown), others)) =
+    (three, (stop, new, written, drawn, told, mid, (line, file, is, in_file, shows_before told _ d x mid kept shown), others))
+stopped_before facts first lines files (Err refusal) d x y kept is = is
 
 -- ---- Lines, joined
 

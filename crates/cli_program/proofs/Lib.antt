@@ -4,6 +4,7 @@ pub mod Examined
 pub mod JoinedLines
 pub mod Rebuilding
 pub mod Salvaging
+pub mod ScriptOrigins
 pub mod Scripted
 pub mod Scripts
 pub mod SourceDone

@@ -1,21 +1,25 @@
 -- What is done with the maps of a script, and what a file leaves open of it.
-use Rattle.std.proofs.Common.{◌≡◌, ◌⊎◌, inl, inr, ℕ, Bool, false, true, List, Option, None, Some, Result, Ok, Err, ◌∙◌, refl, sym, subst, ap}
+use Rattle.std.proofs.Common.{◌≡◌, ◌⊎◌, inl, inr, ℕ, Bool, false, true, List, Option, None, Some, Result, Ok, Err, ◌∙◌, refl, sym, subst, ap, arith, ◌≤◌}
 use Rattle.std.specs.Prelude.{MatchOption}
 use Rattle.std.specs.Io.KnownBytes.{Keeps}
 use Rattle.store_disk.specs.declared.disk.Disk.{Ghosts}
 use Rattle.store_project.specs.States.{State}
 use Rattle.cli_print.specs.Reading.{ReadsAll}
 use Rattle.std.proofs.KnownBytes.{Keeps-refl, Keeps-trans}
-use Rattle.map_tables.specs.Projects.{MapsView, ProjectMaps, project_of}
+use Rattle.map_tables.specs.Projects.{MapsView, ProjectMaps, body_len, empty_project, project_of}
+use Rattle.run_edit.specs.declared.limits.TheConstants.{LONGEST_BODY}
 use Rattle.map_script.specs.Scripts.{script_lines}
-use Rattle.run_canvas.specs.Canvases.{Drafted, draft_canvas, draft_over, first_draft}
+use Rattle.run_canvas.specs.Canvases.{Drafted, draft_canvas, draft_over}
+use Rattle.run_canvas.specs.declared.canvas.Canvas as canvas
+use Rattle.cli_print.specs.Origins.{no_origin}
+use Rattle.cli_program.specs.ScriptCanvases.{ItemOrigin, ScriptCanvas}
 use Rattle.run_script.specs.Drawn.{IsScriptDrawn}
 use Rattle.map_blocks.specs.declared.stop.Stop.{Stop}
 use Rattle.run_canvas.specs.declared.error.ScriptError.{ScriptError}
-use Rattle.cli_program.specs.Drawing.{DrawsWhole, IsDrawnOnto, IsHeldBack, IsTriedOver, TellsStopFrom}
+use Rattle.cli_program.specs.Drawing.{DrawsWhole, IsDrawnOnto, IsHeldBack, IsTriedOver, TellsStops}
 use Rattle.cli_program.specs.DrawnInto.{EndsUnopened, IsReadAt, IsRefusedFor, IsUnreadAt, IsUnreadOf, OverLines, is_file}
 use Rattle.cli_program.specs.DrawnOver.{IsTriedOverDisk}
-use Rattle.cli_program.specs.ScriptMaps.{IsReadDrawn, IsStoppedFrom, IsWithoutUntouched, NotReadDrawn, OverScript}
+use Rattle.cli_program.specs.ScriptMaps.{DrawsLeaving, IsStoppedFrom, NotReadDrawn, OverScript}
 use Rattle.cli_program.specs.Including.{IsScriptJoined, IsUnjoined}
 use Rattle.cli_program.specs.SomeSource.{OverSome, OverSomeMaps, OverSource}
 use Rattle.cli_program.specs.Wads.{OverWad}
@@ -29,17 +33,17 @@ use Rattle.cli_refusals.specs.declared.refusal.Refusal.{Refusal}
 use Rattle.cli_refusals.specs.declared.refusal.Refusal.TheVariants.{Lines, Project}
 
 -- with the status 0 all lines were drawn
-pub drawn_whole : (lines : List (ℕ × List ℕ)) (how : Result ℕ Refusal) (old new : Drafted) → IsDrawnOnto draft_canvas false lines how old new None None → how ≡ Ok 0
-    → DrawsWhole lines old new
-drawn_whole lines how old new (inl undone) is = cc
-drawn_whole lines how old new (inr done) is =
-    (done.told, subst (λ (r : Result (Option Stop) ScriptError). IsScriptDrawn draft_canvas false lines r old None new done.told) (whole_end _ _ _ _ done.handed is) done.drawn)
+pub drawn_whole : {S : Type 0} (facts : canvas.Ghosts S) (lines : List (ℕ × List ℕ)) (how : Result ℕ Refusal) (old new : S) → IsDrawnOnto facts false lines how old new None None → how ≡ Ok 0
+    → DrawsWhole facts lines old new
+drawn_whole facts lines how old new (inl undone) is = cc
+drawn_whole facts lines how old new (inr done) is =
+    (done.told, subst (λ (r : Result (Option Stop) ScriptError). IsScriptDrawn facts false lines r old None new done.told) (whole_end _ _ _ _ done.handed is) done.drawn)
 
 -- a line was told where the status isn't 0
-pub stopped_whole : (lines : List (ℕ × List ℕ)) (files : List (List ℕ)) (status : ℕ) (old : Drafted) (d x : Option (List ℕ))
-    → (status ≡ 0) ⊎ ((status ≡ 3) × TellsStopFrom draft_canvas false lines files old None d x) → ¬ (status ≡ 0) → IsStoppedFrom old lines files (Ok status) d x
-stopped_whole lines files status old d x (inl done) other = absurd (other done)
-stopped_whole lines files status old d x (inr told) other = told
+pub stopped_whole : {S : Type 0} (facts : canvas.Ghosts S) (lines : List (ℕ × List ℕ)) (files : List (List ℕ)) (status : ℕ) (old : S) (d x : Option (List ℕ))
+    → (status ≡ 0) ⊎ ((status ≡ 3) × TellsStops facts false old lines files None d x) → ¬ (status ≡ 0) → IsStoppedFrom facts old lines files (Ok status) d x
+stopped_whole facts lines files status old d x (inl done) other = absurd (other done)
+stopped_whole facts lines files status old d x (inr told) other = told
 
 -- ---- A rehearsal
 
@@ -52,16 +56,16 @@ draft_same project m n d is same cap =
 
 -- a line that was told was refused
 pub held_back : (lines : List (ℕ × List ℕ)) (files : List (List ℕ)) (how : Result ℕ Refusal) (old : Drafted) (d x : Option (List ℕ))
-    → IsStoppedFrom old lines files how d x → IsHeldBack old lines how
+    → IsStoppedFrom draft_canvas old lines files how d x → IsHeldBack old lines how
 held_back lines files (Ok status) old d x (is, told) = (is, (told.0, told.1, told.2, told.3))
 held_back lines files (Err refusal) old d x is = is
 
 -- how it ended
 pub rehearsed : (lines : List (ℕ × List ℕ)) (files : List (List ℕ)) (old first new : Drafted) (d x : Option (List ℕ)) (result : Option (Result ℕ Refusal)) → old ≡ first
-    → MatchOption result (DrawsWhole lines old new × Keeps d x) (λ how. IsStoppedFrom old lines files how d x)
-    → MatchOption result (((tried : Drafted) × DrawsWhole lines first tried) × Keeps d x) (λ how. IsStoppedFrom first lines files how d x)
-rehearsed lines files old first new d x None same (drawn, kept) = ((new, subst (λ (q : Drafted). DrawsWhole lines q new) same drawn), kept)
-rehearsed lines files old first new d x (Some how) same stopped = subst (λ (q : Drafted). IsStoppedFrom q lines files how d x) same stopped
+    → MatchOption result (DrawsWhole draft_canvas lines old new × Keeps d x) (λ how. IsStoppedFrom draft_canvas old lines files how d x)
+    → MatchOption result (((tried : Drafted) × DrawsWhole draft_canvas lines first tried) × Keeps d x) (λ how. IsStoppedFrom draft_canvas first lines files how d x)
+rehearsed lines files old first new d x None same (drawn, kept) = ((new, subst (λ (q : Drafted). DrawsWhole draft_canvas lines q new) same drawn), kept)
+rehearsed lines files old first new d x (Some how) same stopped = subst (λ (q : Drafted). IsStoppedFrom draft_canvas q lines files how d x) same stopped
 
 -- a script that was tried over a copy of a project's maps
 pub tried_same : {D : Type 0} (project : State D) (m : MapsView) (n : ℕ) (verbose : Bool) (lines : List (ℕ × List ℕ)) (how : Result ℕ Refusal) (u w : Option (List ℕ))
@@ -89,79 +93,84 @@ over_lines path lines files how r s u w does read done = inr (lines, files, read
 -- ---- A script
 
 -- a script isn't read or not joined, and how it ends then
-pub unscripted_read : (path : List ℕ) (r s d x : Option (List ℕ)) (ended how : Result ℕ Refusal)
+pub unscripted_read : {S : Type 0} (facts : canvas.Ghosts S) (first : S) (path : List ℕ) (r s d x : Option (List ℕ)) (ended how : Result ℕ Refusal)
     → (how ≡ ended) ⊎ ((ended ≡ Err (Lines ReaderFailed)) × (how ≡ Err (Project NotAProject)))
     → IsRefusedFor (IsUnreadOf r s) ended d x ⊎ ((text : List ℕ) × ReadsAll r s text × IsUnjoined path (script_lines text) ended d x)
-    → NotReadDrawn path r s how d x
-unscripted_read path r s d x ended how (inl same) (inl (refusal, is, unread, kept)) = inl (refusal, same ∙ is, inl unread, kept)
-unscripted_read path r s d x ended how (inl same) (inr (text, all, unjoined)) =
+    → NotReadDrawn facts first path r s how d x
+unscripted_read facts first path r s d x ended how (inl same) (inl (refusal, is, unread, kept)) = inl (refusal, same ∙ is, inl unread, kept)
+unscripted_read facts first path r s d x ended how (inl same) (inr (text, all, unjoined)) =
     inr (text, all, inl (subst (λ (h : Result ℕ Refusal). IsUnjoined path (script_lines text) h d x) (sym same) unjoined))
-unscripted_read path r s d x ended how (inr (was, is)) (inl (refusal, same, unread, kept)) = inl (Project NotAProject, is, inr refl, kept)
-unscripted_read path r s d x ended how (inr (was, is)) (inr (text, all, unjoined)) =
+unscripted_read facts first path r s d x ended how (inr (was, is)) (inl (refusal, same, unread, kept)) = inl (Project NotAProject, is, inr refl, kept)
+unscripted_read facts first path r s d x ended how (inr (was, is)) (inr (text, all, unjoined)) =
     let memory : Lines ReaderFailed ≡ Lines OutOfMemory = subst (λ (h : Result ℕ Refusal). IsUnjoined path (script_lines text) h d x) was unjoined in
     cc
 
--- not all lines of what was read were drawn over the empty project
-pub stopped_read : (path : List ℕ) (lines : List (ℕ × List ℕ)) (files : List (List ℕ)) (r s d x y : Option (List ℕ)) (how : Result ℕ Refusal) (old : Drafted) → old ≡ first_draft
-    → (text : List ℕ) × ReadsAll r s text × IsScriptJoined path (script_lines text) lines files → Keeps d x → IsStoppedFrom old lines files how x y → NotReadDrawn path r s how d y
-stopped_read path lines files r s d x y how old first (text, all, joined) kept stopped =
-    inr (
-      text,
-      all,
-      inr (
-        lines,
-        files,
-        joined,
-        stopped_before first_draft lines files how d x y kept
-            (subst (λ (p : Drafted). IsStoppedFrom p lines files how x y) first stopped),
-      ),
-    )
-
--- all lines were
-pub drawn_read : (path : List ℕ) (lines : List (ℕ × List ℕ)) (files : List (List ℕ)) (r s d x y : Option (List ℕ)) (old last left : Drafted) → old ≡ first_draft
-    → (text : List ℕ) × ReadsAll r s text × IsScriptJoined path (script_lines text) lines files → Keeps d x → DrawsWhole lines old last × Keeps x y → IsWithoutUntouched last left
-    → IsReadDrawn path r s left.maps d y
-drawn_read path lines files r s d x y old last left first (text, all, joined) told (drawn, kept) without =
-    (text, all, (lines, files, joined, last, left, subst (λ (q : Drafted). DrawsWhole lines q last) first drawn, without, refl), Keeps-trans d x y told kept)
+-- not all lines of what was read were drawn
+pub stopped_read : {S : Type 0} (facts : canvas.Ghosts S) (first : S) (path : List ℕ) (lines : List (ℕ × List ℕ)) (files : List (List ℕ)) (r s d x y : Option (List ℕ)) (how : Result ℕ Refusal)
+    → (text : List ℕ) × ReadsAll r s text × IsScriptJoined path (script_lines text) lines files → Keeps d x → IsStoppedFrom facts first lines files how x y → NotReadDrawn facts first path r s how d y
+stopped_read facts first path lines files r s d x y how (text, all, joined) kept stopped =
+    inr (text, all, inr (lines, files, joined, stopped_before facts first lines files how d x y kept stopped))
 
 -- this was done with the maps of a script that were drawn
-pub over_drawn : (path : List ℕ) (r s u w d x : Option (List ℕ)) (how : Result ℕ Refusal) (p : ProjectMaps) (maps : MapsView) (does : MapsView → Type 0)
-    → project_of maps ≡ p → IsReadDrawn path r s p d x → does maps → OverScript path r s how u w d x does
-over_drawn path r s u w d x how p maps does same drawn done =
-    inr (maps, subst (λ (q : ProjectMaps). IsReadDrawn path r s q d x) (sym same) drawn, done)
+pub over_drawn : {S : Type 0} (on : ScriptCanvas S) (path : List ℕ) (lines : List (ℕ × List ℕ)) (files : List (List ℕ)) (first left : S) (r s u w d x : Option (List ℕ)) (how : Result ℕ Refusal)
+    (origin : ItemOrigin) (maps : MapsView) (does : ItemOrigin → MapsView → Type 0) → first ≡ on.first
+    → (text : List ℕ) × ReadsAll r s text × IsScriptJoined path (script_lines text) lines files → DrawsLeaving on.facts first lines left → Keeps d x
+    → project_of maps ≡ on.facts.maps_in left → origin ≡ on.origin lines files left → does origin maps → OverScript on path r s how u w d x does
+over_drawn {S} on path lines files first left r s u w d x how origin maps does is (text, all, joined) drawn told same from done =
+    inr (
+      maps,
+      origin,
+      (text, all, (lines, files, joined, left, subst (λ (q : S). DrawsLeaving on.facts q lines left) is drawn, same, from), told),
+      done,
+    )
 
 -- there are no maps of it
-pub over_none : (path : List ℕ) (r s u d x : Option (List ℕ)) (how : Result ℕ Refusal) (does : MapsView → Type 0)
-    → NotReadDrawn path r s how d x → OverScript path r s how u u d x does
-over_none path r s u d x how does ended = inl (ended, Keeps-refl u)
+pub over_none : {S : Type 0} (on : ScriptCanvas S) (path : List ℕ) (first : S) (r s u d x : Option (List ℕ)) (how : Result ℕ Refusal) (does : ItemOrigin → MapsView → Type 0) → first ≡ on.first
+    → NotReadDrawn on.facts first path r s how d x → OverScript on path r s how u u d x does
+over_none {S} on path first r s u d x how does is ended = inl (subst (λ (q : S). NotReadDrawn on.facts q path r s how d x) is ended, Keeps-refl u)
 
 -- ---- What a file leaves open
 
-pub some_of_script : (path : List ℕ) (r s u w d x : Option (List ℕ)) (how : Result ℕ Refusal) (does : MapsView → Type 0) (levels : List ℕ → Type 0)
-    → OverScript path r s how u w d x does → OverSome path how u w d x does levels
-some_of_script path r s u w d x how does levels (inl (inl (refusal, is, inl unread, told), kept)) =
+pub some_of_script : {S : Type 0} (on : ScriptCanvas S) (path : List ℕ) (r s u w d x : Option (List ℕ)) (how : Result ℕ Refusal) (does : ItemOrigin → MapsView → Type 0) (levels : List ℕ → Type 0)
+    → OverScript on path r s how u w d x does → OverSome on path how u w d x does levels
+some_of_script on path r s u w d x how does levels (inl (inl (refusal, is, inl unread, told), kept)) =
     inr (inl (unread_of r s u w how (refusal, is, unread, kept), told))
-some_of_script path r s u w d x how does levels (inl (inl (refusal, is, inr none, told), kept)) = inl (inl (NotAProject, is ∙ ap Err none, tt, kept), told)
-some_of_script path r s u w d x how does levels (inl (inr (text, all, stopped), kept)) = inr (inr (inr (text, inl (stopped, kept))))
-some_of_script path r s u w d x how does levels (inr (maps, (text, all, drawn, told), done)) = inr (inr (inr (text, inr (maps, drawn, told, done))))
+some_of_script on path r s u w d x how does levels (inl (inl (refusal, is, inr none, told), kept)) = inl (inl (NotAProject, is ∙ ap Err none, tt, kept), told)
+some_of_script on path r s u w d x how does levels (inl (inr (text, all, stopped), kept)) = inr (inr (inr (text, inl (stopped, kept))))
+some_of_script on path r s u w d x how does levels (inr (maps, origin, (text, all, drawn, told), done)) = inr (inr (inr (text, inr (maps, origin, drawn, told, done))))
 
-pub some_of_wad : (path : List ℕ) (r s u w d x : Option (List ℕ)) (how : Result ℕ Refusal) (does : MapsView → Type 0) (levels : List ℕ → Type 0)
-    → OverWad r s how u w (λ wad. levels wad) → Keeps d x → OverSome path how u w d x does (λ wad. levels wad × Keeps d x)
-some_of_wad path r s u w d x how does levels (inl unread) told = inr (inl (unread_of r s u w how unread, told))
-some_of_wad path r s u w d x how does levels (inr (wad, all, done)) told = inr (inr (inl (wad, (done, told))))
+pub some_of_wad : {S : Type 0} (on : ScriptCanvas S) (path : List ℕ) (r s u w d x : Option (List ℕ)) (how : Result ℕ Refusal) (does : ItemOrigin → MapsView → Type 0) (levels : List ℕ → Type 0)
+    → OverWad r s how u w (λ wad. levels wad) → Keeps d x → OverSome on path how u w d x does (λ wad. levels wad × Keeps d x)
+some_of_wad on path r s u w d x how does levels (inl unread) told = inr (inl (unread_of r s u w how unread, told))
+some_of_wad on path r s u w d x how does levels (inr (wad, all, done)) told = inr (inr (inl (wad, (done, told))))
 
-pub some_of_maps : (path : List ℕ) (u w d x : Option (List ℕ)) (how : Result ℕ Refusal) (does : MapsView → Type 0) (levels : List ℕ → Type 0)
-    → OverSomeMaps how u w does → Keeps d x → OverSome path how u w d x does levels
-some_of_maps path u w d x how does levels done told = inl (done, told)
+pub some_of_maps : {S : Type 0} (on : ScriptCanvas S) (path : List ℕ) (u w d x : Option (List ℕ)) (how : Result ℕ Refusal) (does : ItemOrigin → MapsView → Type 0) (levels : List ℕ → Type 0)
+    → OverSomeMaps how u w (does no_origin) → Keeps d x → OverSome on path how u w d x does levels
+some_of_maps on path u w d x how does levels done told = inl (done, told)
 
 -- ---- A file, or the input
 
-pub source_of_file : (path : List ℕ) (r u w d x : Option (List ℕ)) (how : Result ℕ Refusal) (does : MapsView → Type 0) (levels : List ℕ → Type 0) → is_file path ≡ true
-    → OverSome path how u w d x does levels → OverSource path how r r u w d x does levels
-source_of_file path r u w d x how does levels is done =
-    subst (λ (t : Bool). OneOf t (OverSome path how u w d x does levels × Keeps r r) (OverScript path r r how u w d x does)) (sym is) (done, Keeps-refl r)
+pub source_of_file : {S : Type 0} (on : ScriptCanvas S) (path : List ℕ) (r u w d x : Option (List ℕ)) (how : Result ℕ Refusal) (does : ItemOrigin → MapsView → Type 0) (levels : List ℕ → Type 0) → is_file path ≡ true
+    → OverSome on path how u w d x does levels → OverSource on path how r r u w d x does levels
+source_of_file on path r u w d x how does levels is done =
+    subst (λ (t : Bool). OneOf t (OverSome on path how u w d x does levels × Keeps r r) (OverScript on path r r how u w d x does)) (sym is) (done, Keeps-refl r)
 
-pub source_of_input : (path : List ℕ) (r s u w d x : Option (List ℕ)) (how : Result ℕ Refusal) (does : MapsView → Type 0) (levels : List ℕ → Type 0) → is_file path ≡ false
-    → OverScript path r s how u w d x does → OverSource path how r s u w d x does levels
-source_of_input path r s u w d x how does levels is done =
-    subst (λ (t : Bool). OneOf t (OverSome path how u w d x does levels × Keeps r s) (OverScript path r s how u w d x does)) (sym is) done
+pub source_of_input : {S : Type 0} (on : ScriptCanvas S) (path : List ℕ) (r s u w d x : Option (List ℕ)) (how : Result ℕ Refusal) (does : ItemOrigin → MapsView → Type 0) (levels : List ℕ → Type 0) → is_file path ≡ false
+    → OverScript on path r s how u w d x does → OverSource on path how r s u w d x does levels
+source_of_input on path r s u w d x how does levels is done =
+    subst (λ (t : Bool). OneOf t (OverSome on path how u w d x does levels × Keeps r s) (OverScript on path r s how u w d x does)) (sym is) done
+
+-- ---- Maps over which a script is drawn again
+
+pub start_fits : (p : ProjectMaps) (n : ℕ) → p ≡ empty_project → n ≡ LONGEST_BODY → body_len p ≤ n
+start_fits p n same longest =
+    let small : body_len empty_project ≡ 20 = refl in
+    subst (λ (q : ProjectMaps). body_len q ≤ n) (sym same) (subst (λ (k : ℕ). body_len empty_project ≤ k) (sym longest) (omega (arith, small)))
+
+pub copy_fits : (p : ProjectMaps) (n : ℕ) (d : Drafted) → d ≡ record { maps = p; cap = n } → body_len p ≤ n → body_len p ≤ d.cap
+copy_fits p n d is fits = subst (λ (k : ℕ). body_len p ≤ k) (sym (ap (λ (e : Drafted). e.cap) is)) fits
+
+pub project_fits : {D : Type 0} (project : State D) (m : MapsView) (n : ℕ) (d : Drafted) → d ≡ record { maps = project_of m; cap = n } → m ≡ project.maps → n ≡ project.cap
+    → body_len (project_of project.maps) ≤ project.cap → body_len (project_of m) ≤ d.cap
+project_fits project m n d is same cap fits =
+    subst (λ (v : MapsView). body_len (project_of v) ≤ d.cap) (sym same) (subst (λ (k : ℕ). body_len (project_of project.maps) ≤ k) (sym (ap (λ (e : Drafted). e.cap) is ∙ cap)) fits)

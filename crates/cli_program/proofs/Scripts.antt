@@ -15,7 +15,11 @@ use Rattle.std.specs.Prelude.{IfOk, IfSome, slice_get}
 use Rattle.run_reasons.specs.Refused.{blocks_text}
 use Rattle.map_blocks.specs.Stops.{IsStopWithin}
 use Rattle.store_disk.specs.declared.disk.Disk.{Ghosts}
-use Rattle.cli_program.specs.Drawing.{IsHandedOn, IsStopTold, TellsRefused, TellsStopFrom}
+use Rattle.cli_program.specs.Drawing.{IsHandedOn, TellsOthers, TellsRefused, TellsStops, maps_on}
+use Rattle.run_stops.specs.ToldStops.{IsStopTold}
+use Rattle.run_canvas.specs.Canvases.{Drafted}
+use Rattle.std.specs.Io.KnownBytes.{Keeps}
+use Rattle.std.proofs.KnownBytes.{Keeps-trans}
 use Rattle.cli_program.specs.DrawnInto.{IsDrawnInto, IsScriptTried, IsTriedOntoSome}
 use Rattle.cli_program.specs.Including.{ShowsTold}
 
@@ -64,17 +68,25 @@ told_refused told lines files drawn field stop d x whole some within long said =
 
 -- a script that was drawn, and how it ended, with what was told of it
 pub told_end : {S : Type 0} (facts : canvas.Ghosts S) (verbose : Bool) (lines : List (ℕ × List ℕ)) (files : List (List ℕ)) (drawn : Result (Option Stop) ScriptError)
-    (told : Result (Unit {0}) ScriptError) (old new : S) (how : Result ℕ Refusal) (u v w d x : Option (List ℕ))
-    → IsScriptDrawn facts verbose lines drawn old u new v → IsHandedOn drawn how v w → TellsRefused told lines files drawn d x
-    → IfOk how (λ s. (s ≡ 0) ⊎ ((s ≡ 3) × TellsStopFrom facts verbose lines files old u d x))
-told_end facts verbose lines files (Ok None) told old new how u v w d x is (inl (ended, kept)) said =
-    subst (λ (h : Result ℕ Refusal). IfOk h (λ s. (s ≡ 0) ⊎ ((s ≡ 3) × TellsStopFrom facts verbose lines files old u d x))) (sym ended) (inl refl)
-told_end facts verbose lines files (Ok (Some stop)) told old new how u v w d x is (inl (ended, kept)) said =
-    subst (λ (h : Result ℕ Refusal). IfOk h (λ s. (s ≡ 0) ⊎ ((s ≡ 3) × TellsStopFrom facts verbose lines files old u d x))) (sym ended)
-    (inr (refl, (stop, new, v, is, told, said)))
-told_end facts verbose lines files (Err cut.OutOfMemory) told old new how u v w d x is (inl (ended, kept)) said =
-    subst (λ (h : Result ℕ Refusal). IfOk h (λ s. (s ≡ 0) ⊎ ((s ≡ 3) × TellsStopFrom facts verbose lines files old u d x))) (sym ended) tt
-told_end facts verbose lines files (Err cut.WriterFailed) told old new how u v w d x is (inl (ended, kept)) said =
-    subst (λ (h : Result ℕ Refusal). IfOk h (λ s. (s ≡ 0) ⊎ ((s ≡ 3) × TellsStopFrom facts verbose lines files old u d x))) (sym ended) tt
-told_end facts verbose lines files drawn told old new how u v w d x is (inr failed) said =
-    subst (λ (h : Result ℕ Refusal). IfOk h (λ s. (s ≡ 0) ⊎ ((s ≡ 3) × TellsStopFrom facts verbose lines files old u d x))) (sym failed) tt
+    (told : Result (Unit {0}) ScriptError) (old new : S) (how : Result ℕ Refusal) (u v w d m x : Option (List ℕ))
+    → IsScriptDrawn facts verbose lines drawn old u new v → IsHandedOn drawn how v w → TellsRefused told lines files drawn d m → TellsOthers (maps_on facts old) lines files drawn told m x
+    → IfOk how (λ s. (s ≡ 0) ⊎ ((s ≡ 3) × TellsStops facts verbose old lines files u d x))
+told_end facts verbose lines files (Ok None) told old new how u v w d m x is (inl (ended, kept)) said others =
+    subst (λ (h : Result ℕ Refusal). IfOk h (λ s. (s ≡ 0) ⊎ ((s ≡ 3) × TellsStops facts verbose old lines files u d x))) (sym ended) (inl refl)
+told_end facts verbose lines files (Ok (Some stop)) told old new how u v w d m x is (inl (ended, kept)) said others =
+    subst (λ (h : Result ℕ Refusal). IfOk h (λ s. (s ≡ 0) ⊎ ((s ≡ 3) × TellsStops facts verbose old lines files u d x))) (sym ended)
+    (inr (refl, (stop, new, v, is, told, m, said, others)))
+told_end facts verbose lines files (Err cut.OutOfMemory) told old new how u v w d m x is (inl (ended, kept)) said others =
+    subst (λ (h : Result ℕ Refusal). IfOk h (λ s. (s ≡ 0) ⊎ ((s ≡ 3) × TellsStops facts verbose old lines files u d x))) (sym ended) tt
+told_end facts verbose lines files (Err cut.WriterFailed) told old new how u v w d m x is (inl (ended, kept)) said others =
+    subst (λ (h : Result ℕ Refusal). IfOk h (λ s. (s ≡ 0) ⊎ ((s ≡ 3) × TellsStops facts verbose old lines files u d x))) (sym ended) tt
+told_end facts verbose lines files drawn told old new how u v w d m x is (inr failed) said others =
+    subst (λ (h : Result ℕ Refusal). IfOk h (λ s. (s ≡ 0) ⊎ ((s ≡ 3) × TellsStops facts verbose old lines files u d x))) (sym failed) tt
+
+-- nothing was told of a script all of whose lines were drawn
+pub quiet_end : (drawn : Result (Option Stop) ScriptError) (how : Result ℕ Refusal) (told : Result (Unit {0}) ScriptError) (first : Drafted) (lines : List (ℕ × List ℕ))
+    (files : List (List ℕ)) (v w d m x : Option (List ℕ)) → IsHandedOn drawn how v w → (drawn ≡ Ok None → Keeps d m) → TellsOthers first lines files drawn told m x → how ≡ Ok 0
+    → Keeps d x
+quiet_end drawn how told first lines files v w d m x handed quiet others is =
+    let whole : drawn ≡ Ok None = whole_end drawn how v w handed is in
+    Keeps-trans d m x (quiet whole) (subst (λ (r : Result (Option Stop) ScriptError). TellsOthers first lines files r told m x) whole others)

@@ -19,6 +19,8 @@ use Rattle.cli_program.specs.DrawnInto.{is_file}
 use Rattle.cli_program.proofs.JoinedLines.{ends_apart}
 use Rattle.map_script.specs.Scripts.{script_lines}
 use Rattle.run_canvas.specs.Canvases.{OneOf}
+use Rattle.run_canvas.specs.declared.canvas.Canvas as canvas
+use Rattle.cli_program.specs.ScriptCanvases.{ItemOrigin, ScriptCanvas, maps_alone, maps_with_origins}
 use Rattle.cli_program.specs.Deeds.{IsPerformed}
 use Rattle.cli_program.specs.Kinds.{IsQuiet}
 use Rattle.cli_program.specs.Notes.{TellsNotes}
@@ -94,61 +96,61 @@ noted_with (Levels wad) how r s u w d x never = absurd never
 noted_with (Rebuild wad out maps) how r s u w d x never = absurd never
 
 -- a script of which not all lines were drawn ends with another status than 0
-stopped_apart : (path text : List ℕ) (how : Result ℕ Refusal) (d x : Option (List ℕ)) → IsStopped path text how d x → status_in how ≡ 0 → ⊥
-stopped_apart path text how d x (inl unjoined) none = ends_apart 16 path (script_lines text) how d x unjoined none
-stopped_apart path text (Ok status) d x (inr (lines, files, joined, (three, told))) none = omega (arith, three, none)
-stopped_apart path text (Err refusal) d x (inr (lines, files, joined, memory)) none = omega (arith, none)
+stopped_apart : {S : Type 0} (facts : canvas.Ghosts S) (first : S) (path text : List ℕ) (how : Result ℕ Refusal) (d x : Option (List ℕ)) → IsStopped facts first path text how d x → status_in how ≡ 0 → ⊥
+stopped_apart facts first path text how d x (inl unjoined) none = ends_apart 16 path (script_lines text) how d x unjoined none
+stopped_apart facts first path text (Ok status) d x (inr (lines, files, joined, (three, told))) none = omega (arith, three, none)
+stopped_apart facts first path text (Err refusal) d x (inr (lines, files, joined, memory)) none = omega (arith, none)
 
 -- with the status 0 nothing was told, if nothing was of a WAD
-quiet_some : (path : List ℕ) (how : Result ℕ Refusal) (u w d x : Option (List ℕ)) (does : MapsView → Type 0) (levels : List ℕ → Type 0)
-    → OverSome path how u w d x does levels → ((wad : List ℕ) → levels wad → Keeps d x) → status_in how ≡ 0 → Keeps d x
-quiet_some path how u w d x does levels (inl (done, kept)) quiet none = kept
-quiet_some path how u w d x does levels (inr (inl (unread, kept))) quiet none = kept
-quiet_some path how u w d x does levels (inr (inr (inl (wad, done)))) quiet none = quiet wad done
-quiet_some path how u w d x does levels (inr (inr (inr (text, inl (stopped, kept))))) quiet none = absurd (stopped_apart path text how d x stopped none)
-quiet_some path how u w d x does levels (inr (inr (inr (text, inr (maps, drawn, kept, done))))) quiet none = kept
+quiet_some : {S : Type 0} (on : ScriptCanvas S) (path : List ℕ) (how : Result ℕ Refusal) (u w d x : Option (List ℕ)) (does : ItemOrigin → MapsView → Type 0) (levels : List ℕ → Type 0)
+    → OverSome on path how u w d x does levels → ((wad : List ℕ) → levels wad → Keeps d x) → status_in how ≡ 0 → Keeps d x
+quiet_some on path how u w d x does levels (inl (done, kept)) quiet none = kept
+quiet_some on path how u w d x does levels (inr (inl (unread, kept))) quiet none = kept
+quiet_some on path how u w d x does levels (inr (inr (inl (wad, done)))) quiet none = quiet wad done
+quiet_some on path how u w d x does levels (inr (inr (inr (text, inl (stopped, kept))))) quiet none = absurd (stopped_apart on.facts on.first path text how d x stopped none)
+quiet_some on path how u w d x does levels (inr (inr (inr (text, inr (maps, origin, drawn, kept, done))))) quiet none = kept
 
-quiet_script : (path : List ℕ) (how : Result ℕ Refusal) (r s u w d x : Option (List ℕ)) (does : MapsView → Type 0) → OverScript path r s how u w d x does → status_in how ≡ 0
+quiet_script : {S : Type 0} (on : ScriptCanvas S) (path : List ℕ) (how : Result ℕ Refusal) (r s u w d x : Option (List ℕ)) (does : ItemOrigin → MapsView → Type 0) → OverScript on path r s how u w d x does → status_in how ≡ 0
     → Keeps d x
-quiet_script path how r s u w d x does (inl (inl (refusal, is, cause, told), kept)) none = told
-quiet_script path how r s u w d x does (inl (inr (text, all, stopped), kept)) none = absurd (stopped_apart path text how d x stopped none)
-quiet_script path how r s u w d x does (inr (maps, (text, all, drawn, told), done)) none = told
+quiet_script on path how r s u w d x does (inl (inl (refusal, is, cause, told), kept)) none = told
+quiet_script on path how r s u w d x does (inl (inr (text, all, stopped), kept)) none = absurd (stopped_apart on.facts on.first path text how d x stopped none)
+quiet_script on path how r s u w d x does (inr (maps, origin, (text, all, drawn, told), done)) none = told
 
-quiet_by : (b : Bool) (path : List ℕ) (how : Result ℕ Refusal) (r s u w d x : Option (List ℕ)) (does : MapsView → Type 0) (levels : List ℕ → Type 0)
-    → OneOf b (OverSome path how u w d x does levels × Keeps r s) (OverScript path r s how u w d x does) → ((wad : List ℕ) → levels wad → Keeps d x) → status_in how ≡ 0
+quiet_by : {S : Type 0} (on : ScriptCanvas S) (b : Bool) (path : List ℕ) (how : Result ℕ Refusal) (r s u w d x : Option (List ℕ)) (does : ItemOrigin → MapsView → Type 0) (levels : List ℕ → Type 0)
+    → OneOf b (OverSome on path how u w d x does levels × Keeps r s) (OverScript on path r s how u w d x does) → ((wad : List ℕ) → levels wad → Keeps d x) → status_in how ≡ 0
     → Keeps d x
-quiet_by true path how r s u w d x does levels (done, kept) quiet none = quiet_some path how u w d x does levels done quiet none
-quiet_by false path how r s u w d x does levels done quiet none = quiet_script path how r s u w d x does done none
+quiet_by on true path how r s u w d x does levels (done, kept) quiet none = quiet_some on path how u w d x does levels done quiet none
+quiet_by on false path how r s u w d x does levels done quiet none = quiet_script on path how r s u w d x does done none
 
-quiet_source : (path : List ℕ) (how : Result ℕ Refusal) (r s u w d x : Option (List ℕ)) (does : MapsView → Type 0) (levels : List ℕ → Type 0)
-    → OverSource path how r s u w d x does levels → ((wad : List ℕ) → levels wad → Keeps d x) → status_in how ≡ 0 → Keeps d x
-quiet_source path how r s u w d x does levels done quiet none = quiet_by (is_file path) path how r s u w d x does levels done quiet none
+quiet_source : {S : Type 0} (on : ScriptCanvas S) (path : List ℕ) (how : Result ℕ Refusal) (r s u w d x : Option (List ℕ)) (does : ItemOrigin → MapsView → Type 0) (levels : List ℕ → Type 0)
+    → OverSource on path how r s u w d x does levels → ((wad : List ℕ) → levels wad → Keeps d x) → status_in how ≡ 0 → Keeps d x
+quiet_source on path how r s u w d x does levels done quiet none = quiet_by on (is_file path) path how r s u w d x does levels done quiet none
 
 -- the same where what was told of a WAD is nothing, or no WAD is taken
-quiet_told : (path : List ℕ) (how : Result ℕ Refusal) (r s u w d x : Option (List ℕ)) (does : MapsView → Type 0) (P : List ℕ → Type 0)
-    → OverSource path how r s u w d x does (λ wad. P wad × Keeps d x) → status_in how ≡ 0 → Keeps d x
-quiet_told path how r s u w d x does P done none = quiet_source path how r s u w d x does (λ wad. P wad × Keeps d x) done (λ wad told. told.1) none
+quiet_told : {S : Type 0} (on : ScriptCanvas S) (path : List ℕ) (how : Result ℕ Refusal) (r s u w d x : Option (List ℕ)) (does : ItemOrigin → MapsView → Type 0) (P : List ℕ → Type 0)
+    → OverSource on path how r s u w d x does (λ wad. P wad × Keeps d x) → status_in how ≡ 0 → Keeps d x
+quiet_told on path how r s u w d x does P done none = quiet_source on path how r s u w d x does (λ wad. P wad × Keeps d x) done (λ wad told. told.1) none
 
-quiet_built : (path : List ℕ) (how : Result ℕ Refusal) (r s u w d x : Option (List ℕ)) (does : MapsView → Type 0)
-    → OverSource path how r s u w d x does (λ wad. ⊥) → status_in how ≡ 0 → Keeps d x
-quiet_built path how r s u w d x does done none = quiet_source path how r s u w d x does (λ wad. ⊥) done (λ wad never. absurd never) none
+quiet_built : {S : Type 0} (on : ScriptCanvas S) (path : List ℕ) (how : Result ℕ Refusal) (r s u w d x : Option (List ℕ)) (does : ItemOrigin → MapsView → Type 0)
+    → OverSource on path how r s u w d x does (λ wad. ⊥) → status_in how ≡ 0 → Keeps d x
+quiet_built on path how r s u w d x does done none = quiet_source on path how r s u w d x does (λ wad. ⊥) done (λ wad never. absurd never) none
 
 pub quiet_with : (request : Request) (how : Result ℕ Refusal) (r s u w d x : Option (List ℕ)) → IsDoneWith request how r s u w d x → IsQuiet request (status_in how)
     → Keeps d x
 quiet_with (Check file map) how r s u w d x done none =
     let name : Option (List ℕ) = option_map string_bytes map in
-    quiet_told (string_bytes file) how r s u w d x (λ maps. IsCheckedIn name maps how u w) (λ wad. IsWadChecked wad name how u w) done none
+    quiet_told maps_with_origins (string_bytes file) how r s u w d x (λ origin maps. IsCheckedIn origin name maps how u w) (λ wad. IsWadChecked wad name how u w) done none
 quiet_with (Lint file map-name iwad only except) how r s u w d x done none =
     let name : Option (List ℕ) = option_map string_bytes map-name in
     let words : ChosenWords = record { only = map string_bytes only.items; except = map string_bytes except.items } in
-    quiet_told (string_bytes file) how r s u w d x (λ maps. IsLintedBy (is_some iwad) words name maps how u w) (λ wad. IsWadLintedBy (is_some iwad) words wad name how u w)
+    quiet_told maps_with_origins (string_bytes file) how r s u w d x (λ origin maps. IsLintedBy origin (is_some iwad) words name maps how u w) (λ wad. IsWadLintedBy (is_some iwad) words wad name how u w)
     done none
 quiet_with (Picture file map out numbers nodes lint heights grid crop) how r s u w d x done none =
     let name : Option (List ℕ) = option_map string_bytes map in
     let layers : Layers = layers_of numbers heights grid crop nodes lint in
-    quiet_told (string_bytes file) how r s u w d x (λ maps. IsPicturedOf layers name (is_some out) maps how u w) (λ wad. IsLevelPicturedOf layers name (is_some out) wad how u w)
+    quiet_told maps_alone (string_bytes file) how r s u w d x (λ origin maps. IsPicturedOf layers name (is_some out) maps how u w) (λ wad. IsLevelPicturedOf layers name (is_some out) wad how u w)
     done none
-quiet_with (Build file out) how r s u w d x done none = quiet_built (string_bytes file) how r s u w d x (λ maps. IsBuiltFrom maps how u w) done none
+quiet_with (Build file out) how r s u w d x done none = quiet_built maps_alone (string_bytes file) how r s u w d x (λ origin maps. IsBuiltFrom maps how u w) done none
 quiet_with (Dump file names exact) how r s u w d x done never = absurd never
 quiet_with Scratch how r s u w d x never none = absurd never
 quiet_with (Create file slot journal) how r s u w d x never none = absurd never

@@ -3,7 +3,8 @@ use Rattle.std.specs.Prelude.{◌≡◌, ◌⊎◌, ℕ, Bool, false, List, [], 
 use Rattle.std.specs.Io.KnownBytes.{Keeps}
 use Rattle.run_canvas.specs.Canvases.{Drafted, draft_canvas, first_draft}
 use Rattle.run_script.specs.Drawn.{IsScriptDrawn}
-use Rattle.run_reasons.specs.Refused.{TellsStop, blocks_text}
+use Rattle.run_reasons.specs.Refused.{blocks_text}
+use Rattle.run_stops.specs.ToldStops.{AreFurtherTold, IsStopTold}
 use Rattle.run_canvas.specs.declared.canvas.Canvas as canvas
 use Rattle.map_blocks.specs.declared.stop.Stop.{Stop}
 use Rattle.run_canvas.specs.declared.error.ScriptError.{ScriptError}
@@ -32,7 +33,15 @@ abbrev pub IsHandedOn : Result (Option Stop) ScriptError → Result ℕ Refusal 
 IsHandedOn drawn how writer-old writer-new =
     ((how ≡ draw_end drawn) × Keeps writer-old writer-new) ⊎ (how ≡ Err (of.Lines WriterFailed))
 
--- the lines of a script were drawn onto a canvas, as a script is drawn
+-- the lines of a script were drawn onto a canvas, as a script is drawn, with this result
+abbrev pub IsDrawnWith : {S : Type 0} → canvas.Ghosts S → Bool → List (ℕ × List ℕ)
+    → Result (Option Stop) ScriptError → Result ℕ Refusal → S → S → Option (List ℕ)
+    → Option (List ℕ) → Type 0
+IsDrawnWith facts verbose lines result how old new writer-old writer-new =
+    (told : Option (List ℕ)) × IsScriptDrawn facts verbose lines result old writer-old new told
+    × IsHandedOn result how told writer-new
+
+-- the same with some result
 pub record IsScriptDone {S : Type 0} (facts : canvas.Ghosts S) (verbose : Bool)
     (lines : List (ℕ × List ℕ)) (how : Result ℕ Refusal) (old new : S)
     (writer-old writer-new : Option (List ℕ)) : Type 0 where
@@ -55,11 +64,6 @@ IsDrawnOnto facts verbose lines how old new writer-old writer-new =
     IsUndone how old new writer-old writer-new
     ⊎ IsScriptDone facts verbose lines how old new writer-old writer-new
 
--- these bytes tell which line of a file was refused, and why, and the blocks that were open
-abbrev pub IsStopTold : List ℕ → ℕ × List ℕ → ℕ → List ℕ → List ℕ → Type 0
-IsStopTold file line code blocks told =
-    TellsStop {U = Unit {0}} (Ok tt) file line code blocks (Some []) (Some told)
-
 -- this was told of the lines of a script that were drawn so: which one was refused, in which file,
 -- and why; and nothing where none was
 abbrev pub TellsRefused : {U : Type 0} → Result U ScriptError → List (ℕ × List ℕ) → List (List ℕ)
@@ -72,16 +76,35 @@ TellsRefused told lines files (Ok (Some stop)) faults-old faults-new =
 TellsRefused told lines files (Ok None) faults-old faults-new = Keeps faults-old faults-new
 TellsRefused told lines files (Err e) faults-old faults-new = Keeps faults-old faults-new
 
--- a line of a script was refused, drawn from this canvas on, and it was told which one and why
-abbrev pub TellsStopFrom : {S : Type 0} → canvas.Ghosts S → Bool → List (ℕ × List ℕ)
-    → List (List ℕ) → S → Option (List ℕ) → Option (List ℕ) → Option (List ℕ) → Type 0
-TellsStopFrom {S = S} facts verbose lines files old writer-old faults-old faults-new =
-    (stop : Stop) × (new : S) × (writer-new : Option (List ℕ))
-    × IsScriptDrawn facts verbose lines (Ok (Some stop)) old writer-old new writer-new
-    × (told : Result (Unit {0}) ScriptError)
-    × TellsRefused told lines files (Ok (Some stop)) faults-old faults-new
-
 -- ---- Memory
+
+-- behind such a stop that was told, it was told at which further lines the script stops, drawn from
+-- these maps on without those before; and else nothing
+abbrev pub TellsOthers : {U : Type 0} → Drafted → List (ℕ × List ℕ) → List (List ℕ)
+    → Result (Option Stop) ScriptError → Result U ScriptError → Option (List ℕ) → Option (List ℕ)
+    → Type 0
+TellsOthers first lines files (Ok (Some stop)) (Ok u) faults-old faults-new =
+    (result : Result (Unit {0}) ScriptError)
+    × ShowsTold result (AreFurtherTold first lines files stop) faults-old faults-new
+TellsOthers first lines files (Ok (Some stop)) (Err e) faults-old faults-new =
+    Keeps faults-old faults-new
+TellsOthers first lines files (Ok None) told faults-old faults-new = Keeps faults-old faults-new
+TellsOthers first lines files (Err e) told faults-old faults-new = Keeps faults-old faults-new
+
+-- the maps of a canvas in memory, and how long their body may be
+abbrev pub maps_on : {S : Type 0} → canvas.Ghosts S → S → Drafted
+maps_on facts s = record { maps = facts.maps_in s; cap = facts.cap_in s }
+
+-- a line of a script was refused, drawn from this canvas on, and it was told which one and why; and so
+-- of further ones, drawn from its maps on
+abbrev pub TellsStops : {S : Type 0} → canvas.Ghosts S → Bool → S → List (ℕ × List ℕ)
+    → List (List ℕ) → Option (List ℕ) → Option (List ℕ) → Option (List ℕ) → Type 0
+TellsStops {S = S} facts verbose first lines files writer-old faults-old faults-new =
+    (stop : Stop) × (new : S) × (writer-new : Option (List ℕ))
+    × IsScriptDrawn facts verbose lines (Ok (Some stop)) first writer-old new writer-new
+    × (told : Result (Unit {0}) ScriptError) × (faults-mid : Option (List ℕ))
+    × TellsRefused told lines files (Ok (Some stop)) faults-old faults-mid
+    × TellsOthers (maps_on facts first) lines files (Ok (Some stop)) told faults-mid faults-new
 
 -- the lines of a script were tried over these maps
 abbrev pub IsTriedOver : Drafted → Bool → List (ℕ × List ℕ) → Result ℕ Refusal → Option (List ℕ)
@@ -94,11 +117,11 @@ abbrev pub IsTriedOn : Bool → List (ℕ × List ℕ) → Result ℕ Refusal �
     → Option (List ℕ) → Type 0
 IsTriedOn = IsTriedOver first_draft
 
--- all lines were drawn from these maps on to those, whatever their queries answered
-abbrev pub DrawsWhole : List (ℕ × List ℕ) → Drafted → Drafted → Type 0
-DrawsWhole lines old new =
+-- all lines were drawn from this canvas on to that one, whatever their queries answered
+abbrev pub DrawsWhole : {S : Type 0} → canvas.Ghosts S → List (ℕ × List ℕ) → S → S → Type 0
+DrawsWhole facts lines old new =
     (answers : Option (List ℕ))
-    × IsScriptDrawn draft_canvas false lines (Ok None) old None new answers
+    × IsScriptDrawn facts false lines (Ok None) old None new answers
 
 -- a line is refused if these are drawn from these maps on
 abbrev pub IsRefusedFrom : Drafted → List (ℕ × List ℕ) → Type 0

@@ -6,7 +6,7 @@ use Rattle.store_disk.specs.declared.disk.Disk.{Ghosts}
 use Rattle.store_project.specs.States.{State}
 use Rattle.store_project.specs.declared.error.ProjectError.{ProjectError}
 use Rattle.map_script.specs.Scripts.{script_lines}
-use Rattle.run_canvas.specs.Canvases.{Drafted, draft_over, project_canvas}
+use Rattle.run_canvas.specs.Canvases.{Drafted, draft_canvas, draft_over, project_canvas}
 use Rattle.run_canvas.specs.Waiting.{Drawing, first_drawing}
 use Rattle.run_edit.specs.declared.error.EditorError.{EditorError}
 use Rattle.cli_refusals.specs.Refusals.{EndsReading, IsOfOpening}
@@ -97,7 +97,7 @@ abbrev pub IsDrawnOrLeft : {D : Type 0} → Ghosts D → Bool → List (ℕ × L
 IsDrawnOrLeft {D = D} facts verbose lines how project disk writer-old writer-new =
     (IsHeldBack (draft_over project) lines how × (disk ≡ project.disk)
     × Keeps writer-old writer-new)
-    ⊎ ((tried : Drafted) × DrawsWhole lines (draft_over project) tried
+    ⊎ ((tried : Drafted) × DrawsWhole draft_canvas lines (draft_over project) tried
     × (last : Drawing D) × (disk ≡ last.project.disk)
     × IsDrawnOnto (project_canvas facts) verbose lines how (first_drawing project) last
     writer-old writer-new)

@@ -9,7 +9,9 @@ pub mod LevelNames
 pub mod Notes
 pub mod Rebuilding
 pub mod Salvaging
+pub mod ScriptCanvases
 pub mod ScriptMaps
+pub mod ScriptOrigins
 pub mod SomeSource
 pub mod SourceDeeds
 pub mod Sources

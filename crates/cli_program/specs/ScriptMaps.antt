@@ -8,13 +8,14 @@ use Rattle.map_tables.specs.declared.kind.Kind.TheVariants.{Vertex, Sector, Side
 use Rattle.map_script.specs.Scripts.{script_lines}
 use Rattle.run_edit.specs.declared.error.EditorError.TheVariants.{OutOfMemory}
 use Rattle.store_project.specs.declared.error.ProjectError.TheVariants.{NotAProject}
-use Rattle.run_canvas.specs.Canvases.{ChangesDraft, Drafted, draft_canvas, first_draft}
 use Rattle.run_canvas.specs.Canvases.{OneOf}
+use Rattle.run_canvas.specs.declared.canvas.Canvas as canvas
 use Rattle.cli_print.specs.Picturing.{is_called}
 use Rattle.cli_print.specs.Reading.{ReadsAll}
-use Rattle.cli_program.specs.Drawing.{DrawsWhole, TellsStopFrom}
+use Rattle.cli_program.specs.Drawing.{DrawsWhole, TellsStops}
 use Rattle.cli_program.specs.DrawnInto.{IsRefusedFor, IsUnreadOf}
 use Rattle.cli_program.specs.Including.{IsScriptJoined, IsUnjoined}
+use Rattle.cli_program.specs.ScriptCanvases.{ItemOrigin, ScriptCanvas}
 use Rattle.cli_refusals.specs.declared.refusal.Refusal.{Refusal}
 use Rattle.cli_refusals.specs.declared.refusal.Refusal.TheVariants as of
 
@@ -35,78 +36,90 @@ begins_untouched p = unwrap_or (option_map is_untouched (slice_get p.maps 0)) fa
 
 -- the same maps; but an empty MAP01 before them is dropped, by the command that refuses to drop the
 -- current map
-abbrev pub IsWithoutUntouched : Drafted → Drafted → Type 0
-IsWithoutUntouched old new =
-    OneOf (begins_untouched old.maps)
-    ((outcome : Result ℕ ℕ) × ChangesDraft old (codes "drop-map MAP01") outcome new)
+abbrev pub IsWithoutUntouched : {S : Type 0} → canvas.Ghosts S → S → S → Type 0
+IsWithoutUntouched facts old new =
+    OneOf (begins_untouched (facts.maps_in old))
+    ((outcome : Result ℕ ℕ) × facts.changes old (codes "drop-map MAP01") outcome new)
     (new ≡ old)
 
+-- all lines were drawn from this canvas on, and an empty MAP01 was left out
+abbrev pub DrawsLeaving : {S : Type 0} → canvas.Ghosts S → S → List (ℕ × List ℕ) → S → Type 0
+DrawsLeaving {S = S} facts first lines left =
+    (last : S) × DrawsWhole facts lines first last × IsWithoutUntouched facts last left
+
 -- the maps are those that the script at a path, of this text, draws over the empty project with the
--- files that it includes
-abbrev pub AreDrawnBy : List ℕ → List ℕ → ProjectMaps → Type 0
-AreDrawnBy path text p =
+-- files that it includes, and their items come from there
+abbrev pub AreDrawnBy : {S : Type 0} → ScriptCanvas S → List ℕ → List ℕ → ItemOrigin → ProjectMaps
+    → Type 0
+AreDrawnBy {S = S} on path text origin p =
     (lines : List (ℕ × List ℕ)) × (files : List (List ℕ))
     × IsScriptJoined path (script_lines text) lines files
-    × (last left : Drafted) × DrawsWhole lines first_draft last × IsWithoutUntouched last left
-    × (p ≡ left.maps)
+    × (left : S) × DrawsLeaving on.facts on.first lines left
+    × (p ≡ on.facts.maps_in left) × (origin ≡ on.origin lines files left)
 
 -- ---- How it ends
 
--- not all lines were drawn from these maps on: one was refused and told, or there was no memory
-abbrev pub IsStoppedFrom : Drafted → List (ℕ × List ℕ) → List (List ℕ) → Result ℕ Refusal
-    → Option (List ℕ) → Option (List ℕ) → Type 0
-IsStoppedFrom old lines files (Ok status) faults-old faults-new =
-    (status ≡ 3) × TellsStopFrom draft_canvas false lines files old None faults-old faults-new
-IsStoppedFrom old lines files (Err refusal) faults-old faults-new = refusal ≡ of.Lines OutOfMemory
+-- not all lines were drawn from this canvas on: one was refused and told, with further ones; or there
+-- was no memory
+abbrev pub IsStoppedFrom : {S : Type 0} → canvas.Ghosts S → S → List (ℕ × List ℕ)
+    → List (List ℕ) → Result ℕ Refusal → Option (List ℕ) → Option (List ℕ) → Type 0
+IsStoppedFrom facts old lines files (Ok status) faults-old faults-new =
+    (status ≡ 3) × TellsStops facts false old lines files None faults-old faults-new
+IsStoppedFrom facts old lines files (Err refusal) faults-old faults-new =
+    refusal ≡ of.Lines OutOfMemory
 
--- the script at a path, of this text, can't be joined; or not all of its lines can be drawn over the
--- empty project
-abbrev pub IsStopped : List ℕ → List ℕ → Result ℕ Refusal → Option (List ℕ) → Option (List ℕ)
-    → Type 0
-IsStopped path text how faults-old faults-new =
+-- the script at a path, of this text, can't be joined; or not all of its lines can be drawn from this
+-- canvas on
+abbrev pub IsStopped : {S : Type 0} → canvas.Ghosts S → S → List ℕ → List ℕ → Result ℕ Refusal
+    → Option (List ℕ) → Option (List ℕ) → Type 0
+IsStopped facts first path text how faults-old faults-new =
     IsUnjoined path (script_lines text) how faults-old faults-new
     ⊎ ((lines : List (ℕ × List ℕ)) × (files : List (List ℕ))
     × IsScriptJoined path (script_lines text) lines files
-    × IsStoppedFrom first_draft lines files how faults-old faults-new)
+    × IsStoppedFrom facts first lines files how faults-old faults-new)
 
 -- a script isn't read to its end, or what was read is none (42)
 abbrev pub IsUnscripted : Option (List ℕ) → Option (List ℕ) → Refusal → Type 0
 IsUnscripted reader-old reader-new refusal =
     IsUnreadOf reader-old reader-new refusal ⊎ (refusal ≡ of.Project NotAProject)
 
--- the maps are those that all that the reader gave draws, and nothing was told
-abbrev pub IsReadDrawn : List ℕ → Option (List ℕ) → Option (List ℕ) → ProjectMaps
-    → Option (List ℕ) → Option (List ℕ) → Type 0
-IsReadDrawn path reader-old reader-new p faults-old faults-new =
-    (text : List ℕ) × ReadsAll reader-old reader-new text × AreDrawnBy path text p
+-- the maps and the origins are those that all that the reader gave draws, and nothing was told
+abbrev pub IsReadDrawn : {S : Type 0} → ScriptCanvas S → List ℕ → Option (List ℕ)
+    → Option (List ℕ) → ItemOrigin → ProjectMaps → Option (List ℕ) → Option (List ℕ) → Type 0
+IsReadDrawn on path reader-old reader-new origin p faults-old faults-new =
+    (text : List ℕ) × ReadsAll reader-old reader-new text × AreDrawnBy on path text origin p
     × Keeps faults-old faults-new
 
 -- the script can't be read, or not all of its lines were drawn
-abbrev pub NotReadDrawn : List ℕ → Option (List ℕ) → Option (List ℕ) → Result ℕ Refusal
-    → Option (List ℕ) → Option (List ℕ) → Type 0
-NotReadDrawn path reader-old reader-new how faults-old faults-new =
+abbrev pub NotReadDrawn : {S : Type 0} → canvas.Ghosts S → S → List ℕ → Option (List ℕ)
+    → Option (List ℕ) → Result ℕ Refusal → Option (List ℕ) → Option (List ℕ) → Type 0
+NotReadDrawn facts first path reader-old reader-new how faults-old faults-new =
     IsRefusedFor (IsUnscripted reader-old reader-new) how faults-old faults-new
     ⊎ ((text : List ℕ) × ReadsAll reader-old reader-new text
-    × IsStopped path text how faults-old faults-new)
+    × IsStopped facts first path text how faults-old faults-new)
 
 -- ---- What was done
 
 -- there are no maps of the script, and nothing was written; or this was done with those that all
--- that the reader gave draws
-abbrev pub OverScript : List ℕ → Option (List ℕ) → Option (List ℕ) → Result ℕ Refusal
-    → Option (List ℕ) → Option (List ℕ) → Option (List ℕ) → Option (List ℕ)
-    → (MapsView → Type 0) → Type 0
-OverScript path reader-old reader-new how writer-old writer-new faults-old faults-new does =
-    (NotReadDrawn path reader-old reader-new how faults-old faults-new
+-- that the reader gave draws, and with the origins of their items
+abbrev pub OverScript : {S : Type 0} → ScriptCanvas S → List ℕ → Option (List ℕ)
+    → Option (List ℕ) → Result ℕ Refusal → Option (List ℕ) → Option (List ℕ) → Option (List ℕ)
+    → Option (List ℕ) → (ItemOrigin → MapsView → Type 0) → Type 0
+OverScript on path reader-old reader-new how writer-old writer-new faults-old faults-new does =
+    (NotReadDrawn on.facts on.first path reader-old reader-new how faults-old faults-new
     × Keeps writer-old writer-new)
-    ⊎ ((maps : MapsView) × IsReadDrawn path reader-old reader-new (project_of maps)
-    faults-old faults-new × does maps)
+    ⊎ ((maps : MapsView) × (origin : ItemOrigin)
+    × IsReadDrawn on path reader-old reader-new origin (project_of maps) faults-old faults-new
+    × does origin maps)
 
 -- the same with some text, since a file tells none
-abbrev pub OverSomeScript : List ℕ → Result ℕ Refusal → Option (List ℕ) → Option (List ℕ)
-    → Option (List ℕ) → Option (List ℕ) → (MapsView → Type 0) → Type 0
-OverSomeScript path how writer-old writer-new faults-old faults-new does =
+abbrev pub OverSomeScript : {S : Type 0} → ScriptCanvas S → List ℕ → Result ℕ Refusal
+    → Option (List ℕ) → Option (List ℕ) → Option (List ℕ) → Option (List ℕ)
+    → (ItemOrigin → MapsView → Type 0) → Type 0
+OverSomeScript on path how writer-old writer-new faults-old faults-new does =
     (text : List ℕ)
-    × ((IsStopped path text how faults-old faults-new × Keeps writer-old writer-new)
-    ⊎ ((maps : MapsView) × AreDrawnBy path text (project_of maps) × Keeps faults-old faults-new
-    × does maps))
+    × ((IsStopped on.facts on.first path text how faults-old faults-new
+    × Keeps writer-old writer-new)
+    ⊎ ((maps : MapsView) × (origin : ItemOrigin)
+    × AreDrawnBy on path text origin (project_of maps) × Keeps faults-old faults-new
+    × does origin maps))

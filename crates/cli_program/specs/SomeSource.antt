@@ -6,6 +6,8 @@ use Rattle.map_tables.specs.Projects.{MapsView}
 use Rattle.cli_refusals.specs.declared.refusal.Refusal.{Refusal}
 use Rattle.run_canvas.specs.Canvases.{OneOf}
 use Rattle.cli_program.specs.DrawnInto.{EndsUnopened, EndsUnread, is_file}
+use Rattle.cli_print.specs.Origins.{no_origin}
+use Rattle.cli_program.specs.ScriptCanvases.{ItemOrigin, ScriptCanvas}
 use Rattle.cli_program.specs.ScriptMaps.{OverScript, OverSomeScript}
 
 -- no project was opened and nothing written, or this was done with the maps of some project
@@ -14,24 +16,25 @@ abbrev pub OverSomeMaps : Result ℕ Refusal → Option (List ℕ) → Option (L
 OverSomeMaps how writer-old writer-new does =
     EndsUnopened how writer-old writer-new ⊎ ((maps : MapsView) × does maps)
 
--- this was done with the maps of some project or of some script at the path; or that with some WAD;
--- or a WAD or a script was not read to its end
-abbrev pub OverSome : List ℕ → Result ℕ Refusal → Option (List ℕ) → Option (List ℕ)
-    → Option (List ℕ) → Option (List ℕ) → (MapsView → Type 0) → (List ℕ → Type 0) → Type 0
-OverSome path how writer-old writer-new faults-old faults-new does does-of-wad =
-    (OverSomeMaps how writer-old writer-new does × Keeps faults-old faults-new)
+-- this was done with the maps of some project, whose items come from nowhere, or of some script at
+-- the path; or that with some WAD; or a WAD or a script was not read to its end
+abbrev pub OverSome : {S : Type 0} → ScriptCanvas S → List ℕ → Result ℕ Refusal → Option (List ℕ)
+    → Option (List ℕ) → Option (List ℕ) → Option (List ℕ) → (ItemOrigin → MapsView → Type 0)
+    → (List ℕ → Type 0) → Type 0
+OverSome on path how writer-old writer-new faults-old faults-new does does-of-wad =
+    (OverSomeMaps how writer-old writer-new (does no_origin) × Keeps faults-old faults-new)
     ⊎ (EndsUnread how writer-old writer-new × Keeps faults-old faults-new)
     ⊎ ((wad : List ℕ) × does-of-wad wad)
-    ⊎ OverSomeScript path how writer-old writer-new faults-old faults-new does
+    ⊎ OverSomeScript on path how writer-old writer-new faults-old faults-new does
 
 -- the same of the file at a path, and the input stays; or `-` is the path, and it was done with the
 -- maps of the script that the input gave
-abbrev pub OverSource : List ℕ → Result ℕ Refusal → Option (List ℕ) → Option (List ℕ)
-    → Option (List ℕ) → Option (List ℕ) → Option (List ℕ) → Option (List ℕ)
-    → (MapsView → Type 0) → (List ℕ → Type 0) → Type 0
-OverSource path how reader-old reader-new writer-old writer-new faults-old faults-new does
+abbrev pub OverSource : {S : Type 0} → ScriptCanvas S → List ℕ → Result ℕ Refusal
+    → Option (List ℕ) → Option (List ℕ) → Option (List ℕ) → Option (List ℕ) → Option (List ℕ)
+    → Option (List ℕ) → (ItemOrigin → MapsView → Type 0) → (List ℕ → Type 0) → Type 0
+OverSource on path how reader-old reader-new writer-old writer-new faults-old faults-new does
     does-of-wad =
     OneOf (is_file path)
-    (OverSome path how writer-old writer-new faults-old faults-new does does-of-wad
+    (OverSome on path how writer-old writer-new faults-old faults-new does does-of-wad
     × Keeps reader-old reader-new)
-    (OverScript path reader-old reader-new how writer-old writer-new faults-old faults-new does)
+    (OverScript on path reader-old reader-new how writer-old writer-new faults-old faults-new does)

@@ -12,6 +12,7 @@ use Rattle.cli_print.specs.LevelPicture.{IsLevelPicturedOf}
 use Rattle.cli_print.specs.Linting.{IsLintedBy}
 use Rattle.cli_print.specs.Picturing.{IsPicturedOf}
 use Rattle.cli_print.specs.declared.laid_over.Layers.{Layers}
+use Rattle.cli_program.specs.ScriptCanvases.{maps_alone, maps_with_origins}
 use Rattle.cli_program.specs.SomeSource.{OverSource}
 use Rattle.cli_program.specs.Sources.{IsBuiltFrom}
 use Rattle.cli_refusals.specs.declared.refusal.Refusal.{Refusal}
@@ -19,23 +20,26 @@ use Rattle.cli_words.specs.declared.asked.Request.{Request}
 use Rattle.cli_words.specs.declared.asked.Request.TheVariants.{Check, Lint, Dump, Picture, Build}
 
 -- the findings of a map of the file at the path, or of a level, were written: of the one of the name
--- where one is asked for
+-- where one is asked for; of a script with the origins of their items
 abbrev pub IsCheckedAt : List ℕ → Option (List ℕ) → Result ℕ Refusal → Option (List ℕ)
     → Option (List ℕ) → Option (List ℕ) → Option (List ℕ) → Option (List ℕ) → Option (List ℕ)
     → Type 0
 IsCheckedAt path name how reader-old reader-new writer-old writer-new faults-old faults-new =
-    OverSource path how reader-old reader-new writer-old writer-new faults-old faults-new
-    (λ maps. IsCheckedIn name maps how writer-old writer-new)
+    OverSource maps_with_origins path how reader-old reader-new writer-old writer-new
+    faults-old faults-new
+    (λ origin maps. IsCheckedIn origin name maps how writer-old writer-new)
     (λ wad. IsWadChecked wad name how writer-old writer-new × Keeps faults-old faults-new)
 
--- what there is to say of the maps of the file at the path, or of its levels, was told
+-- what there is to say of the maps of the file at the path, or of its levels, was told; of a script
+-- with the origins of the items
 abbrev pub IsLintedAt : List ℕ → Bool → ChosenWords → Option (List ℕ) → Result ℕ Refusal
     → Option (List ℕ) → Option (List ℕ) → Option (List ℕ) → Option (List ℕ) → Option (List ℕ)
     → Option (List ℕ) → Type 0
 IsLintedAt path asked words name how reader-old reader-new writer-old writer-new
     faults-old faults-new =
-    OverSource path how reader-old reader-new writer-old writer-new faults-old faults-new
-    (λ maps. IsLintedBy asked words name maps how writer-old writer-new)
+    OverSource maps_with_origins path how reader-old reader-new writer-old writer-new
+    faults-old faults-new
+    (λ origin maps. IsLintedBy origin asked words name maps how writer-old writer-new)
     (λ wad. IsWadLintedBy asked words wad name how writer-old writer-new
     × Keeps faults-old faults-new)
 
@@ -45,8 +49,9 @@ abbrev pub IsPicturedAt : List ℕ → Layers → Option (List ℕ) → Bool →
     → Option (List ℕ) → Type 0
 IsPicturedAt path layers name into how reader-old reader-new writer-old writer-new
     faults-old faults-new =
-    OverSource path how reader-old reader-new writer-old writer-new faults-old faults-new
-    (λ maps. IsPicturedOf layers name into maps how writer-old writer-new)
+    OverSource maps_alone path how reader-old reader-new writer-old writer-new
+    faults-old faults-new
+    (λ origin maps. IsPicturedOf layers name into maps how writer-old writer-new)
     (λ wad. IsLevelPicturedOf layers name into wad how writer-old writer-new
     × Keeps faults-old faults-new)
 
@@ -56,16 +61,18 @@ abbrev pub IsDumpedAt : List ℕ → List (List ℕ) → Bool → Result ℕ Ref
     → Type 0
 IsDumpedAt path names exact how reader-old reader-new writer-old writer-new
     faults-old faults-new =
-    OverSource path how reader-old reader-new writer-old writer-new faults-old faults-new
-    (λ maps. IsDumpedIn names maps how writer-old writer-new)
+    OverSource maps_alone path how reader-old reader-new writer-old writer-new
+    faults-old faults-new
+    (λ origin maps. IsDumpedIn names maps how writer-old writer-new)
     (λ wad. IsWadDumped wad names exact how writer-old writer-new faults-old faults-new)
 
 -- the maps of the file at the path, which is no WAD, were built, and the counts told
 abbrev pub IsBuiltAt : List ℕ → Result ℕ Refusal → Option (List ℕ) → Option (List ℕ)
     → Option (List ℕ) → Option (List ℕ) → Option (List ℕ) → Option (List ℕ) → Type 0
 IsBuiltAt path how reader-old reader-new writer-old writer-new faults-old faults-new =
-    OverSource path how reader-old reader-new writer-old writer-new faults-old faults-new
-    (λ maps. IsBuiltFrom maps how writer-old writer-new) (λ wad. ⊥)
+    OverSource maps_alone path how reader-old reader-new writer-old writer-new
+    faults-old faults-new
+    (λ origin maps. IsBuiltFrom maps how writer-old writer-new) (λ wad. ⊥)
 
 -- one of these was done, as the request asks for
 abbrev pub IsDoneWith : Request → Result ℕ Refusal → Option (List ℕ) → Option (List ℕ)

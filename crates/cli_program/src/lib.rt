@@ -23,6 +23,8 @@ mod rebuild_request;
 mod salvage_request;
 mod script_file;
 mod script_maps;
+mod script_origin;
+mod told_stops;
 mod typed;
 mod typing;
 

@@ -4,13 +4,14 @@ ghost use Rattle.std.specs.Prelude.{◌≡◌, ◌≤◌, IfOk, is_some, option_
 ghost use Rattle.cli_print.specs.Choosing.{choice_view};
 ghost use Rattle.cli_print.specs.LevelLines.{IsWadLintedBy};
 ghost use Rattle.cli_print.specs.Linting.{IsLintedBy};
+ghost use Rattle.cli_print.specs.Origins.{no_origin};
 ghost use Rattle.run_edit.specs.Recovery.{IsOnlyRead};
 ghost use Rattle.cli_program.specs.Sources.{OverMaps};
 ghost use Rattle.cli_program.specs.Wads.{OverWad};
 
 use crate::over_disk::{HandedBack, maps_on};
 use cli_files::Cause;
-use cli_print::{Choice, TURNS, read_wad, tell_beside, tell_levels_beside};
+use cli_print::{Choice, NoOrigin, TURNS, read_wad, tell_beside, tell_levels_beside};
 use cli_refusals::{Causes, Refusal};
 use map_tables::Maps;
 use std::fs::Files;
@@ -34,7 +35,7 @@ pub fn lint<E: AllocGlobal + Files, D: Disk, W: Write>(
     ensures small { IfOk result.how (λ s. s ≤ 3) }
     ensures linted { OverMaps D.Disk disk result.disk result.how
         (W.contents writer.old) (W.contents writer.new)
-        (λ maps. IsLintedBy (is_some iwad.entry) (choice_view choice.entry)
+        (λ maps. IsLintedBy no_origin (is_some iwad.entry) (choice_view choice.entry)
         (option_map (λ s. s.now) name.entry) maps result.how
         (W.contents writer.old) (W.contents writer.new)) }
     ensures only_read { IsOnlyRead D.Disk disk result.disk }
@@ -42,7 +43,7 @@ pub fn lint<E: AllocGlobal + Files, D: Disk, W: Write>(
     let mut maps = Maps::new(rt.alloc());
     match maps_on(rt.alloc(), disk, &mut maps) {
         Ok(disk) => HandedBack {
-            how: tell_beside(rt, &maps, name, iwad, choice, writer, why),
+            how: tell_beside(rt, &maps, name, iwad, choice, &NoOrigin, writer, why),
             disk,
         },
         Err(back) => back,

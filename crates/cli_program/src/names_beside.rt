@@ -68,8 +68,8 @@ where
     let mut faults = Vec::new(rt.alloc());
     let mut why = None;
     match draw_maps(rt, path, reader, &mut draft, &mut faults, &mut why) {
-        Some(_) => None,
-        None => names_of(rt.alloc(), draft.maps()),
+        Ok(_) => names_of(rt.alloc(), draft.maps()),
+        Err(_) => None,
     }
 }
 

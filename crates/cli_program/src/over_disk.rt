@@ -8,11 +8,12 @@ ghost use Rattle.store_project.specs.Opening.{HasMaps, IsRefusedRead};
 ghost use Rattle.cli_program.specs.Deeds.{IsCreated};
 ghost use Rattle.run_edit.specs.Recovery.{IsOnlyRead};
 ghost use Rattle.cli_print.specs.Checking.{IsCheckedIn};
+ghost use Rattle.cli_print.specs.Origins.{no_origin};
 ghost use Rattle.cli_program.specs.Sources.{IsEditedOver, IsFaultCounted, IsMade, IsOpenedFrom, NotOpened, OverMaps};
 ghost use Rattle.run_edit.specs.declared.error.EditorError.TheVariants.{WriterFailed};
 ghost use Rattle.cli_refusals.specs.declared.refusal.Refusal.{Refusal};
 
-use cli_print::{TURNS, tell_findings};
+use cli_print::{NoOrigin, TURNS, tell_findings};
 use cli_refusals::{DONE, Refusal, ended};
 use map_tables::Maps;
 use run_edit::{EditorError, run};
@@ -140,14 +141,14 @@ pub fn check<D: Disk, W: Write>(
     ensures small { IfOk result.how (λ s. s ≤ 3) }
     ensures found { OverMaps D.Disk disk result.disk result.how
         (W.contents writer.old) (W.contents writer.new)
-        (λ maps. IsCheckedIn (option_map (λ s. s.now) name.entry) maps result.how
+        (λ maps. IsCheckedIn no_origin (option_map (λ s. s.now) name.entry) maps result.how
         (W.contents writer.old) (W.contents writer.new)) }
     ensures only_read { IsOnlyRead D.Disk disk result.disk }
 {
     let mut maps = Maps::new(alloc);
     match maps_on(alloc, disk, &mut maps) {
         Ok(disk) => HandedBack {
-            how: tell_findings(alloc, &maps, name, writer),
+            how: tell_findings(alloc, &maps, name, &NoOrigin, writer),
             disk,
         },
         Err(back) => back,

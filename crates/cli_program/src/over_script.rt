@@ -6,20 +6,23 @@ ghost use Rattle.cli_print.specs.Checking.{IsCheckedIn};
 ghost use Rattle.cli_print.specs.Choosing.{choice_view};
 ghost use Rattle.cli_print.specs.Linting.{IsLintedBy};
 ghost use Rattle.cli_print.specs.Picturing.{IsPicturedOf};
+ghost use Rattle.cli_program.specs.ScriptCanvases.{maps_alone, maps_with_origins};
 ghost use Rattle.cli_program.specs.ScriptMaps.{OverScript};
 ghost use Rattle.cli_program.specs.Sources.{IsBuiltFrom};
 
 use crate::build_request::build_at;
 use crate::script_maps::draw_maps;
+use crate::script_origin::ScriptOrigin;
 use cli_dump::tell_lines_of;
 use cli_files::{Cause, Hold};
 use cli_print::{Choice, Wanted, draw, tell_beside, tell_findings};
 use cli_refusals::{Causes, Refusal};
-use run_canvas::{Canvas, Draft};
+use run_canvas::{Canvas, Draft, OriginDraft};
 use std::fs::Files;
 use std::io::{Read, Write};
 
-/// Writes what is wrong or unfinished in the map with the name that the script at a path draws, or in the current one.
+/// Writes what is wrong or unfinished in the map with the name that the script at a path draws, or in the current one,
+/// and behind each finding the lines that added its items.
 #[inline(never)]
 pub fn check_script<E: AllocGlobal + Files, R: Read, W: Write, F: Write>(
     rt: &E,
@@ -31,20 +34,24 @@ pub fn check_script<E: AllocGlobal + Files, R: Read, W: Write, F: Write>(
     why: &mut Option<Cause>,
 ) -> Result<u8, Refusal>
     ensures small { IfOk result (λ s. s ≤ 3) }
-    ensures found { OverScript script.now (R.remaining reader.old) (R.remaining reader.new) result
+    ensures found { OverScript maps_with_origins script.now
+        (R.remaining reader.old) (R.remaining reader.new) result
         (W.contents writer.old) (W.contents writer.new)
         (F.contents faults.old) (F.contents faults.new)
-        (λ maps. IsCheckedIn (option_map (λ s. s.now) name.entry) maps result
+        (λ origin maps. IsCheckedIn origin (option_map (λ s. s.now) name.entry) maps result
         (W.contents writer.old) (W.contents writer.new)) }
 {
-    let mut draft = Draft::new(rt.alloc());
-    match draw_maps(rt, script, reader, &mut draft, faults, why) {
-        Some(how) => how,
-        None => tell_findings(rt.alloc(), draft.maps(), name, writer),
-    }
+    let mut draft = OriginDraft::new(rt.alloc());
+    let whole = match draw_maps(rt, script, reader, &mut draft, faults, why) {
+        Ok(whole) => whole,
+        Err(how) => return how,
+    };
+    let origin = ScriptOrigin::new(&whole, &draft);
+    tell_findings(rt.alloc(), draft.maps(), name, &origin, writer)
 }
 
-/// Writes about each map that a script draws, or about the one with the name alone, what `lint` says of a project's.
+/// Writes about each map that a script draws, or about the one with the name alone, what `lint` says of a project's,
+/// and behind each finding and warning the lines that added its items.
 #[inline(never)]
 pub fn lint_script<E: AllocGlobal + Files, R: Read, W: Write, F: Write>(
     rt: &E,
@@ -58,28 +65,30 @@ pub fn lint_script<E: AllocGlobal + Files, R: Read, W: Write, F: Write>(
     why: &mut Causes,
 ) -> Result<u8, Refusal>
     ensures small { IfOk result (λ s. s ≤ 3) }
-    ensures linted { OverScript script.now (R.remaining reader.old) (R.remaining reader.new) result
+    ensures linted { OverScript maps_with_origins script.now
+        (R.remaining reader.old) (R.remaining reader.new) result
         (W.contents writer.old) (W.contents writer.new)
         (F.contents faults.old) (F.contents faults.new)
-        (λ maps. IsLintedBy (is_some iwad.entry) (choice_view choice.entry)
+        (λ origin maps. IsLintedBy origin (is_some iwad.entry) (choice_view choice.entry)
         (option_map (λ s. s.now) name.entry) maps result
         (W.contents writer.old) (W.contents writer.new)) }
 {
-    let mut draft = Draft::new(rt.alloc());
-    match draw_maps(rt, script, reader, &mut draft, faults, &mut why.file) {
-        Some(how) => how,
-        None => {
-            tell_beside(
-                rt,
-                draft.maps(),
-                name,
-                iwad,
-                choice,
-                writer,
-                &mut why.beside,
-            )
-        },
-    }
+    let mut draft = OriginDraft::new(rt.alloc());
+    let whole = match draw_maps(rt, script, reader, &mut draft, faults, &mut why.file) {
+        Ok(whole) => whole,
+        Err(how) => return how,
+    };
+    let origin = ScriptOrigin::new(&whole, &draft);
+    tell_beside(
+        rt,
+        draft.maps(),
+        name,
+        iwad,
+        choice,
+        &origin,
+        writer,
+        &mut why.beside,
+    )
 }
 
 /// Writes the lines that draw the maps of a script again, or, if there are names, those of each map with one of the
@@ -95,17 +104,19 @@ pub fn dump_script<E: AllocGlobal + Files, R: Read, W: Write, F: Write>(
     why: &mut Option<Cause>,
 ) -> Result<u8, Refusal>
     ensures small { IfOk result (λ s. s ≤ 3) }
-    ensures dumped { OverScript script.now (R.remaining reader.old) (R.remaining reader.new) result
+    ensures dumped { OverScript maps_alone script.now
+        (R.remaining reader.old) (R.remaining reader.new) result
         (W.contents writer.old) (W.contents writer.new)
         (F.contents faults.old) (F.contents faults.new)
-        (λ maps. IsDumpedIn (map string_bytes names.now) maps result
+        (λ origin maps. IsDumpedIn (map string_bytes names.now) maps result
         (W.contents writer.old) (W.contents writer.new)) }
 {
     let mut draft = Draft::new(rt.alloc());
-    match draw_maps(rt, script, reader, &mut draft, faults, why) {
-        Some(how) => how,
-        None => tell_lines_of(rt.alloc(), draft.maps(), names, writer),
-    }
+    let _whole = match draw_maps(rt, script, reader, &mut draft, faults, why) {
+        Ok(whole) => whole,
+        Err(how) => return how,
+    };
+    tell_lines_of(rt.alloc(), draft.maps(), names, writer)
 }
 
 /// Draws a map of a script as a picture, onto the output or into a file, or notes why the file can't be made.
@@ -122,17 +133,19 @@ pub fn picture_script<E: AllocGlobal + Files, R: Read, W: Write, F: Write>(
 where
     E::File: Hold,
     ensures small { IfOk result (λ s. s ≤ 3) }
-    ensures pictured { OverScript script.now (R.remaining reader.old) (R.remaining reader.new)
-        result (W.contents writer.old) (W.contents writer.new)
+    ensures pictured { OverScript maps_alone script.now
+        (R.remaining reader.old) (R.remaining reader.new) result
+        (W.contents writer.old) (W.contents writer.new)
         (F.contents faults.old) (F.contents faults.new)
-        (λ maps. IsPicturedOf wanted.entry.layers (option_map (λ s. s.now) wanted.entry.map)
+        (λ origin maps. IsPicturedOf wanted.entry.layers (option_map (λ s. s.now) wanted.entry.map)
         (is_some wanted.entry.out) maps result (W.contents writer.old) (W.contents writer.new)) }
 {
     let mut draft = Draft::new(rt.alloc());
-    match draw_maps(rt, script, reader, &mut draft, faults, &mut why.file) {
-        Some(how) => how,
-        None => draw(rt.alloc(), rt, draft.maps(), wanted, writer, &mut why.out),
-    }
+    let _whole = match draw_maps(rt, script, reader, &mut draft, faults, &mut why.file) {
+        Ok(whole) => whole,
+        Err(how) => return how,
+    };
+    draw(rt.alloc(), rt, draft.maps(), wanted, writer, &mut why.out)
 }
 
 /// Builds the maps of a script into the file at `out`, or notes why the file can't be made. If a line is refused, the
@@ -150,14 +163,16 @@ pub fn build_script<E: AllocGlobal + Files, R: Read, W: Write, F: Write>(
 where
     E::File: Hold,
     ensures small { IfOk result (λ s. s ≤ 3) }
-    ensures built { OverScript script.now (R.remaining reader.old) (R.remaining reader.new) result
+    ensures built { OverScript maps_alone script.now
+        (R.remaining reader.old) (R.remaining reader.new) result
         (W.contents writer.old) (W.contents writer.new)
         (F.contents faults.old) (F.contents faults.new)
-        (λ maps. IsBuiltFrom maps result (W.contents writer.old) (W.contents writer.new)) }
+        (λ origin maps. IsBuiltFrom maps result (W.contents writer.old) (W.contents writer.new)) }
 {
     let mut draft = Draft::new(rt.alloc());
-    match draw_maps(rt, script, reader, &mut draft, faults, &mut why.file) {
-        Some(how) => how,
-        None => build_at(rt.alloc(), rt, draft.maps(), out, writer, &mut why.out),
-    }
+    let _whole = match draw_maps(rt, script, reader, &mut draft, faults, &mut why.file) {
+        Ok(whole) => whole,
+        Err(how) => return how,
+    };
+    build_at(rt.alloc(), rt, draft.maps(), out, writer, &mut why.out)
 }

@@ -10,6 +10,7 @@ ghost use Rattle.cli_print.specs.LevelLines.{IsWadChecked, IsWadLintedBy};
 ghost use Rattle.cli_print.specs.LevelPicture.{IsLevelPicturedOf};
 ghost use Rattle.cli_print.specs.Linting.{IsLintedBy};
 ghost use Rattle.cli_print.specs.Picturing.{IsPicturedOf};
+ghost use Rattle.cli_program.specs.ScriptCanvases.{maps_alone, maps_with_origins};
 ghost use Rattle.cli_program.specs.SomeSource.{OverSome};
 ghost use Rattle.cli_program.specs.Sources.{IsBuiltFrom};
 
@@ -45,9 +46,10 @@ where
     W: Write,
     F: Write,
     ensures small { IfOk result (λ s. s ≤ 3) }
-    ensures found { OverSome path.now result (W.contents writer.old) (W.contents writer.new)
+    ensures found { OverSome maps_with_origins path.now result
+        (W.contents writer.old) (W.contents writer.new)
         (F.contents faults.old) (F.contents faults.new)
-        (λ maps. IsCheckedIn (option_map (λ s. s.now) name.entry) maps result
+        (λ origin maps. IsCheckedIn origin (option_map (λ s. s.now) name.entry) maps result
         (W.contents writer.old) (W.contents writer.new))
         (λ wad. IsWadChecked wad (option_map (λ s. s.now) name.entry) result
         (W.contents writer.old) (W.contents writer.new)
@@ -97,9 +99,10 @@ where
     W: Write,
     F: Write,
     ensures small { IfOk result (λ s. s ≤ 3) }
-    ensures linted { OverSome path.now result (W.contents writer.old) (W.contents writer.new)
+    ensures linted { OverSome maps_with_origins path.now result
+        (W.contents writer.old) (W.contents writer.new)
         (F.contents faults.old) (F.contents faults.new)
-        (λ maps. IsLintedBy (is_some iwad.entry) (choice_view choice.entry)
+        (λ origin maps. IsLintedBy origin (is_some iwad.entry) (choice_view choice.entry)
         (option_map (λ s. s.now) name.entry) maps result
         (W.contents writer.old) (W.contents writer.new))
         (λ wad. IsWadLintedBy (is_some iwad.entry) (choice_view choice.entry) wad
@@ -148,9 +151,10 @@ where
     W: Write,
     F: Write,
     ensures small { IfOk result (λ s. s ≤ 3) }
-    ensures dumped { OverSome path.now result (W.contents writer.old) (W.contents writer.new)
+    ensures dumped { OverSome maps_alone path.now result
+        (W.contents writer.old) (W.contents writer.new)
         (F.contents faults.old) (F.contents faults.new)
-        (λ maps. IsDumpedIn (map string_bytes names.now) maps result
+        (λ origin maps. IsDumpedIn (map string_bytes names.now) maps result
         (W.contents writer.old) (W.contents writer.new))
         (λ wad. IsWadDumped wad (map string_bytes names.now) is_exact result
         (W.contents writer.old) (W.contents writer.new)
@@ -199,9 +203,10 @@ where
     W: Write,
     F: Write,
     ensures small { IfOk result (λ s. s ≤ 3) }
-    ensures pictured { OverSome path.now result (W.contents writer.old) (W.contents writer.new)
+    ensures pictured { OverSome maps_alone path.now result
+        (W.contents writer.old) (W.contents writer.new)
         (F.contents faults.old) (F.contents faults.new)
-        (λ maps. IsPicturedOf wanted.entry.layers (option_map (λ s. s.now) wanted.entry.map)
+        (λ origin maps. IsPicturedOf wanted.entry.layers (option_map (λ s. s.now) wanted.entry.map)
         (is_some wanted.entry.out) maps result (W.contents writer.old) (W.contents writer.new))
         (λ wad. IsLevelPicturedOf wanted.entry.layers (option_map (λ s. s.now) wanted.entry.map)
         (is_some wanted.entry.out) wad result (W.contents writer.old) (W.contents writer.new)
@@ -242,9 +247,10 @@ where
     W: Write,
     F: Write,
     ensures small { IfOk result (λ s. s ≤ 3) }
-    ensures built { OverSome path.now result (W.contents writer.old) (W.contents writer.new)
+    ensures built { OverSome maps_alone path.now result
+        (W.contents writer.old) (W.contents writer.new)
         (F.contents faults.old) (F.contents faults.new)
-        (λ maps. IsBuiltFrom maps result (W.contents writer.old) (W.contents writer.new))
+        (λ origin maps. IsBuiltFrom maps result (W.contents writer.old) (W.contents writer.new))
         (λ wad. ⊥) }
 {
     let mut file = open_read(rt, path, why)?;

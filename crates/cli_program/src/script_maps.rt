@@ -1,18 +1,24 @@
 //! The maps that a script draws in memory, where it stands in place of a project.
-ghost use Rattle.std.specs.Prelude.{◌≡◌, ◌≤◌, ◌⊎◌, Err, IfOk, IfSome, MatchOption};
+ghost use Rattle.std.specs.Prelude.{◌≡◌, ◌≤◌, ◌⊎◌, ℕ, Err, IfErr, IfOk, List, length};
+ghost use Rattle.std.specs.Io.KnownBytes.{Keeps};
+ghost use Rattle.cli_print.specs.Reading.{ReadsAll};
+ghost use Rattle.map_script.specs.Scripts.{script_lines};
 ghost use Rattle.store_project.specs.declared.error.ProjectError.TheVariants.{NotAProject};
 ghost use Rattle.run_edit.specs.declared.error.EditorError.TheVariants.{ReaderFailed};
 ghost use Rattle.cli_refusals.specs.declared.refusal.Refusal.TheVariants.{Lines, Project};
-ghost use Rattle.map_tables.specs.Projects.{project_of};
-ghost use Rattle.run_canvas.specs.Canvases.{first_draft};
-ghost use Rattle.cli_program.specs.ScriptMaps.{IsReadDrawn, IsWithoutUntouched, NotReadDrawn, begins_untouched, is_untouched, item_count};
+ghost use Rattle.map_tables.specs.Projects.{empty_project, project_of};
+ghost use Rattle.run_edit.specs.declared.limits.TheConstants.{LONGEST_BODY};
+ghost use Rattle.run_canvas.specs.Canvases.{NothingWaits};
+ghost use Rattle.cli_program.specs.Including.{IsScriptJoined};
+ghost use Rattle.cli_program.specs.ScriptMaps.{DrawsLeaving, IsWithoutUntouched, NotReadDrawn, begins_untouched, is_untouched, item_count};
 
 use crate::draw_request::draw_whole;
+use crate::including::WholeScript;
 use crate::script_file::read_joined;
 use cli_files::Cause;
 use cli_refusals::Refusal;
 use map_tables::{Kind, Map, Maps};
-use run_canvas::{Canvas, Draft};
+use run_canvas::Canvas;
 use run_edit::EditorError;
 use std::fs::Files;
 use std::io::{Read, Write};
@@ -49,13 +55,13 @@ fn begins_untouched(maps: &Maps) -> bool
 
 // Drops the first map if it is the empty MAP01 of a new project, unless it is the current one: the script never drew on
 // it.
-fn drop_untouched(draft: &mut Draft)
-    ensures { IsWithoutUntouched draft.old draft.new }
+fn drop_untouched<C: Canvas>(canvas: &mut C)
+    ensures { IsWithoutUntouched C.Canvas canvas.old canvas.new }
 {
-    if !begins_untouched(draft.maps()) {
+    if !begins_untouched(canvas.maps()) {
         return;
     }
-    let _ = draft.change(b"drop-map MAP01");
+    let _ = canvas.change(b"drop-map MAP01");
 }
 
 // Whether it is noted of a file that it holds no script.
@@ -76,34 +82,45 @@ fn without_script(how: Result<u8, Refusal>, why: &Option<Cause>) -> Result<u8, R
     }
 }
 
-/// Draws all that the reader gives, the script at a path, over the empty project, and leaves out an empty MAP01. If a
-/// line is refused, reports it on `faults`; if the reader fails, or gives no script, notes why. Returns how a request
-/// ends that finds no maps so. Answers to queries are not written.
-pub fn draw_maps<E: AllocGlobal + Files, R: Read, F: Write>(
+/// Draws all that the reader gives, the script at a path, from a canvas on, which has the empty project, and leaves out
+/// an empty MAP01. Returns the script's lines.
+///
+/// # Errors
+///
+/// How a request ends that finds no maps so: if a line is refused, it is reported on `faults`; if the reader fails, or
+/// gives no script, that is noted. Answers to queries are not written.
+pub fn draw_maps<E: AllocGlobal + Files, R: Read, C: Canvas, F: Write>(
     rt: &E,
     path: &str,
     reader: &mut R,
-    draft: &mut Draft,
+    canvas: &mut C,
     faults: &mut F,
     why: &mut Option<Cause>,
-) -> Option<Result<u8, Refusal>>
-    requires { draft.old ≡ first_draft }
-    ensures maps { MatchOption result
-        (IsReadDrawn path.now (R.remaining reader.old) (R.remaining reader.new) draft.new.maps
-        (F.contents faults.old) (F.contents faults.new))
-        (λ how. NotReadDrawn path.now (R.remaining reader.old) (R.remaining reader.new) how
+) -> Result<WholeScript, Result<u8, Refusal>>
+    requires settled { NothingWaits C.Canvas canvas.old }
+    requires empty { C.Canvas.maps_in canvas.old ≡ empty_project }
+    requires longest { C.Canvas.cap_in canvas.old ≡ LONGEST_BODY }
+    ensures whole { IfOk result (λ s. (text : List ℕ)
+        × ReadsAll (R.remaining reader.old) (R.remaining reader.new) text
+        × IsScriptJoined path.now (script_lines text) s.lines s.files) }
+    ensures long { IfOk result (λ s. length s.files ≡ length s.lines) }
+    ensures drawn { IfOk result (λ s.
+        DrawsLeaving C.Canvas canvas.old s.lines canvas.new) }
+    ensures quiet { IfOk result (λ _. Keeps (F.contents faults.old) (F.contents faults.new)) }
+    ensures none { IfErr result (λ how. NotReadDrawn C.Canvas canvas.old path.now
+        (R.remaining reader.old) (R.remaining reader.new) how
         (F.contents faults.old) (F.contents faults.new)) }
-    ensures small { IfSome result (λ how. IfOk how (λ s. s ≤ 3)) }
+    ensures small { IfErr result (λ how. IfOk how (λ s. s ≤ 3)) }
 {
     let whole = match read_joined(rt, path, reader, faults, why) {
         Ok(whole) => whole,
-        Err(how) => return Some(without_script(how, why)),
+        Err(how) => return Err(without_script(how, why)),
     };
-    match draw_whole(rt.alloc(), &whole.lines, &whole.files, draft, faults) {
-        Some(how) => Some(how),
+    match draw_whole(rt.alloc(), &whole.lines, &whole.files, canvas, faults) {
+        Some(how) => Err(how),
         None => {
-            drop_untouched(draft);
-            None
+            drop_untouched(canvas);
+            Ok(whole)
         }
     }
 }

@@ -188,6 +188,7 @@ the first may be those of the second table.
   $NAME                     the number that the command of NAME answered, or a word
   $NAME.vertex              the first vertex that it added; also .line, .side, .sector
                             and .thing
+  $NAME.north               the northern wall of a room; also .east, .south and .west
   $vertex(X,Y)              the vertex at a place; also $line, $sector and $thing
   $NAME.line+2              two more
   $w*2, 64-$w, ($a+$b)/2    sums, without blanks
@@ -222,7 +223,7 @@ and 70 to 78 from a WAD. What is wrong, or what to do about it:
 18 NoSuchMap           `maps` lists the names
 19 CurrentMap          make another map current first
 20 NotAName            in a script: a name is a letter, then letters, digits and _
-21 NotAReference       in a script: give $NAME, $NAME.KIND or $KIND(X,Y), perhaps with +N
+21 NotAReference       in a script: give $NAME, $NAME.KIND or $KIND(X,Y), of the kind wanted
 22 UnknownName         in a script: no earlier line has this name; check its spelling
 23 NothingAdded        in a script: name an item that the command adds
 24 NumberTooLarge      in a script: the sum is above 32767; check the +N

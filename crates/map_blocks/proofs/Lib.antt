@@ -1,2 +1,3 @@
 pub mod Defining
+pub mod OneOut
 pub mod PlacedLines

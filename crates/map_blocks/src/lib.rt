@@ -3,8 +3,12 @@
 
 mod blocks;
 mod defined;
+mod hanging;
+mod leaving;
 mod stop;
 
 pub use blocks::{block_len, order_fault};
 pub use defined::{Shape, shape_called, shapes_in};
+pub use hanging::{ends_telling, give_one_in, hangs};
+pub use leaving::{files_without, lines_without};
 pub use stop::{OpenBlock, Stop};

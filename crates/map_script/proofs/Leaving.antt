@@ -4,9 +4,10 @@ use Rattle.std.proofs.lemmas.Bool.{le-ltb, lt-ltb}
 use Rattle.map_script.specs.Layers.{Layer}
 use Rattle.map_script.specs.Scopes.{Scope, left, with_layers}
 use Rattle.map_script.specs.declared.placing.Placing.{Placing}
+use Rattle.map_script.specs.declared.referent.Answer.{Answer}
 
 -- names by their layers
-pub scope_at : (p : Placing) (w : Bool) (a : Option ℕ) {l k : Layer} {ls ks : List Layer} → l ≡ k → ls ≡ ks
+pub scope_at : (p : Placing) (w : Bool) (a : Option Answer) {l k : Layer} {ls ks : List Layer} → l ≡ k → ls ≡ ks
     → ◌≡◌ {A = Scope} (record { names = l.names; held = l.held; outer = ls; placing = p; is_within = w; answered = a })
     (record { names = k.names; held = k.held; outer = ks; placing = p; is_within = w; answered = a })
 scope_at p w a is same = λ i. record { names = (is i).names; held = (is i).held; outer = same i; placing = p; is_within = w; answered = a }

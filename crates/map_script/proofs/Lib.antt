@@ -3,6 +3,7 @@ pub mod Cleaning
 pub mod FileParts
 pub mod Hiding
 pub mod Holding
+pub mod KindCuts
 pub mod Layering
 pub mod Leasts
 pub mod Leaving

@@ -1,7 +1,7 @@
 -- The numbers and the texts of the refusals.
 use Rattle.std.specs.Prelude.{ℕ, List, codes}
 use Rattle.map_script.specs.declared.error.DrawError.{DrawError}
-use Rattle.map_script.specs.declared.error.DrawError.TheVariants.{NotALet, NotALoop, NotAnAt, NotADefine, NotItsWords, OutsideMap, NotAQuarter, NotAName, NotAReference, UnknownName, NothingAdded, NumberTooLarge, NothingThere, NotANumber, NotWhole, TooGreat, TooDeep, OpenBlock, TooManyLines, OutOfMemory}
+use Rattle.map_script.specs.declared.error.DrawError.TheVariants.{NotALet, NotALoop, NotAnAt, NotADefine, NotItsWords, OutsideMap, NotAQuarter, NotAName, NotAReference, OtherKind, UnknownName, NothingAdded, NumberTooLarge, NothingThere, NotANumber, NotWhole, TooGreat, TooDeep, OpenBlock, TooManyLines, OutOfMemory}
 
 -- the number of each refusal
 abbrev pub code_of : DrawError → ℕ
@@ -14,6 +14,7 @@ code_of OutsideMap = 2
 code_of NotAQuarter = 2
 code_of NotAName = 20
 code_of NotAReference = 21
+code_of OtherKind = 21
 code_of UnknownName = 22
 code_of NothingAdded = 23
 code_of NumberTooLarge = 24
@@ -37,6 +38,7 @@ message_of OutsideMap = codes "at moves 0 0 to a place from -16384 to 16383"
 message_of NotAQuarter = codes "ANGLE is 0, 90, 180 or 270"
 message_of NotAName = codes "a name is a letter, then letters, digits and _"
 message_of NotAReference = codes "a reference is $NAME or $NAME.KIND, with or without +N"
+message_of OtherKind = codes "the number of an item of another kind stands here"
 message_of UnknownName = codes "no line before has this name"
 message_of NothingAdded = codes "the command of this name added no such item"
 message_of NumberTooLarge = codes "the sum is greater than 32767"

@@ -7,6 +7,7 @@ pub mod Firsts
 pub mod Frames
 pub mod Held
 pub mod Includes
+pub mod Kinds
 pub mod Known
 pub mod Layers
 pub mod Lines
@@ -17,6 +18,7 @@ pub mod Own
 pub mod Placed
 pub mod Placings
 pub mod Reckoned
+pub mod Referents
 pub mod Scopes
 pub mod Scripts
 pub mod Sums

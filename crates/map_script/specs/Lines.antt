@@ -5,7 +5,9 @@ use Rattle.std.specs.Fmt.{signed_decimal}
 use Rattle.std.specs.List.{join_with_byte, list_any}
 use Rattle.std.specs.Option.{is_none}
 use Rattle.map_tables.specs.Tables.{Tables}
-use Rattle.map_script.specs.Meant.{Meant, meant_by, worded}
+use Rattle.map_tables.specs.declared.kind.Kind.{Kind}
+use Rattle.map_script.specs.Kinds.{field_parts, misfit_in, only_kind}
+use Rattle.map_script.specs.Meant.{Meant, meant_by, worded_as}
 use Rattle.map_script.specs.Names.{is_no_reference, is_script_name, number_for}
 use Rattle.map_script.specs.Own.{is_own_word}
 use Rattle.map_script.specs.Placed.{placed_line}
@@ -14,7 +16,7 @@ use Rattle.map_script.specs.Sums.{sum_value}
 use Rattle.map_script.specs.Texts.{with_word}
 use Rattle.map_script.specs.Words.{text_words}
 use Rattle.map_script.specs.declared.error.DrawError.{DrawError}
-use Rattle.map_script.specs.declared.error.DrawError.TheVariants.{NotALet, NotAName, OutOfMemory}
+use Rattle.map_script.specs.declared.error.DrawError.TheVariants.{NotALet, NotAName, OtherKind, OutOfMemory}
 
 -- the name that a line defines: NAME of NAME = COMMAND
 abbrev pub name_in : List (List ℕ) → Option (List ℕ)
@@ -69,16 +71,6 @@ reckoned_word scope m (b ∷ bs) =
 abbrev pub value_word : Scope → Tables → List ℕ → Result (List ℕ) DrawError
 value_word scope m text = if is_reckoned text then reckoned_word scope m text else Ok text
 
--- `NAME=` and VALUE of a word whose first `=` is here, or nothing and the whole word
-abbrev pub field_at : List ℕ → Option ℕ → List ℕ × List ℕ
-field_at text None = ([], text)
-field_at text (Some i) =
-    if is_script_name (take i text) then (take (i + 1) text, drop (i + 1) text) else ([], text)
-
--- `NAME=` and VALUE of a word, or nothing and the whole word
-abbrev pub field_parts : List ℕ → List ℕ × List ℕ
-field_parts text = field_at text (position (λ b. b == 61) text)
-
 -- a word behind `NAME=`
 abbrev pub behind_field : List ℕ → Result (List ℕ) DrawError → Result (List ℕ) DrawError
 behind_field front (Ok w) = Ok (front ++ w)
@@ -107,13 +99,24 @@ abbrev pub joined_line : Result (List (List ℕ)) DrawError → Result (List ℕ
 joined_line (Ok ws) = Ok (join_with_byte 32 ws)
 joined_line (Err e) = Err e
 
+-- a line, or OtherKind if one of its words is the number of another kind of item than its place wants
+abbrev pub fitted_line : Option (List ℕ × Kind × Kind) → Result (List ℕ) DrawError
+    → Result (List ℕ) DrawError
+fitted_line None line = line
+fitted_line (Some misfit) line = Err OtherKind
+
+-- the line of these words, each replaced by what it stands for
+abbrev pub replaced_line : Scope → Tables → List (List ℕ) → Result (List ℕ) DrawError
+replaced_line scope m ws =
+    let line = joined_line (words_for scope m ws) in fitted_line (misfit_in scope ws line) line
+
 -- the command line that a line stands for over the current map, its places placed by the open
--- blocks; or its error: that of a bad name comes before that of a bad reference
+-- blocks; or its error: that of a bad name comes before that of a bad reference, and that before one
+-- of another kind
 abbrev pub line_for : Scope → Tables → List ℕ → Result (List ℕ) DrawError
 line_for scope m line =
     if has_good_name (name_in (text_words line))
-    then placed_line scope.placing
-    (joined_line (words_for scope m (command_words (text_words line))))
+    then placed_line scope.placing (replaced_line scope m (command_words (text_words line)))
     else Err NotAName
 
 -- ---- let NAME WORD ..
@@ -124,10 +127,11 @@ let_words [] = None
 let_words (w ∷ ws) =
     if bytes_eq w (codes "let") && is_none (name_in (w ∷ ws)) then Some ws else None
 
--- the names, with one that now stands for words
-abbrev pub with_words : Scope → List ℕ → Result (List ℕ) DrawError → Result Scope DrawError
-with_words scope name (Ok words) = Ok (with_let scope name (worded words))
-with_words scope name (Err e) = Err e
+-- the names, with one that now stands for words, or for the number of an item of a kind
+abbrev pub with_words : Scope → List ℕ → Option Kind → Result (List ℕ) DrawError
+    → Result Scope DrawError
+with_words scope name k (Ok words) = Ok (with_let scope name (worded_as words k))
+with_words scope name k (Err e) = Err e
 
 -- the names after NAME WORD .., or what is wrong with it
 abbrev pub names_after : Scope → Tables → List (List ℕ) → Result Scope DrawError
@@ -135,7 +139,8 @@ names_after scope m [] = Err NotALet
 names_after scope m (n ∷ []) = Err NotALet
 names_after scope m (n ∷ w ∷ ws) =
     if is_script_name n && not (is_own_word n)
-    then with_words scope n (joined_line (words_for scope m (w ∷ ws))) else Err NotAName
+    then with_words scope n (only_kind scope (w ∷ ws)) (joined_line (words_for scope m (w ∷ ws)))
+    else Err NotAName
 
 -- ---- How a call ended
 

@@ -15,10 +15,12 @@ use Rattle.map_plane.specs.Places.{placed_lines}
 use Rattle.map_script.specs.Firsts.{first_of}
 use Rattle.map_script.specs.Meant.{Meant, meant_by}
 use Rattle.map_script.specs.Placings.{is_coordinate_word, place_of, placed_vertex}
+use Rattle.map_script.specs.Referents.{wall_place}
 use Rattle.map_script.specs.Scopes.{Scope, visible}
 use Rattle.map_script.specs.declared.error.DrawError.{DrawError}
 use Rattle.map_script.specs.declared.error.DrawError.TheVariants.{NotAReference, UnknownName, NothingAdded, NumberTooLarge, NothingThere}
-use Rattle.map_script.specs.declared.firsts.Firsts.{Firsts}
+use Rattle.map_script.specs.declared.referent.Referent.{Referent}
+use Rattle.map_script.specs.declared.referent.Referent.TheVariants.{Room}
 use Rattle.map_script.specs.declared.placing.Placing.{Placing}
 use Rattle.lump_records.specs.Names.{is_digit}
 
@@ -35,7 +37,7 @@ abbrev pub is_script_name : List ℕ → Bool
 is_script_name [] = false
 is_script_name (b ∷ bs) = is_letter b && list_all is_script_name_byte bs
 
--- ---- References: NAME, NAME.KIND or KIND(X,Y), each with or without +N
+-- ---- References: NAME, NAME.KIND, NAME.WALL or KIND(X,Y), each with or without +N
 
 -- a text cut at an index: the bytes before it and those after it; the whole text if there is no index
 abbrev pub text_cut_at : List ℕ → Option ℕ → List ℕ × Option (List ℕ)
@@ -46,10 +48,10 @@ text_cut_at text (Some i) = (take i text, Some (drop (i + 1) text))
 abbrev pub cut : ℕ → List ℕ → List ℕ × Option (List ℕ)
 cut c text = text_cut_at text (position (λ b. b == c) text)
 
--- no part, or the word of a table
+-- no part, or the word of a table or of a wall
 abbrev pub is_kind_part : Option (List ℕ) → Bool
 is_kind_part None = true
-is_kind_part (Some w) = is_some (kind_of w)
+is_kind_part (Some w) = is_some (kind_of w) || is_some (wall_place w)
 
 -- a number without a sign
 abbrev pub is_natural_word : List ℕ → Bool
@@ -69,10 +71,19 @@ abbrev pub added_by : Option (List ℕ) → ℕ
 added_by None = 0
 added_by (Some digits) = value_of digits
 
--- the first item of a table, if there is such a table
-abbrev pub first_named : Firsts → Option Kind → Option ℕ
-first_named firsts None = None
-first_named firsts (Some k) = first_of firsts k
+-- the line of a room's wall, by its place among the four
+abbrev pub wall_behind : Referent → Option ℕ → Option ℕ → Option ℕ
+wall_behind Room (Some first) (Some place) = Some (first + place)
+wall_behind referent first place = None
+
+-- the same of a name, if a room gave it
+abbrev pub wall_line : Meant → Option ℕ → Option ℕ
+wall_line meant place = wall_behind meant.referent meant.firsts.line place
+
+-- the first item of a table, or the line of a wall
+abbrev pub item_named : Meant → List ℕ → Option Kind → Option ℕ
+item_named meant w (Some k) = first_of meant.firsts k
+item_named meant w None = wall_line meant (wall_place w)
 
 -- the sum, which must be at most 32767
 abbrev pub sum_of : Option ℕ → ℕ → Result ℕ DrawError
@@ -89,7 +100,7 @@ abbrev pub number_in : Option Meant → Option (List ℕ) → Option (List ℕ) 
 number_in None kind more = Err UnknownName
 number_in (Some meant) None more = words_and meant.words (added_by more)
 number_in (Some meant) (Some w) more =
-    sum_of (first_named meant.firsts (kind_of w)) (added_by more)
+    sum_of (item_named meant w (kind_of w)) (added_by more)
 
 -- the number that these parts of a reference stand for, or what is wrong with the reference
 abbrev pub number_by : Scope → List ℕ → Option (List ℕ) → Option (List ℕ)

@@ -8,17 +8,18 @@ use Rattle.map_script.specs.Meant.{Meant, with_meaning, worded}
 use Rattle.map_script.specs.Placings.{unplaced}
 use Rattle.map_script.specs.declared.names.Mark.{Mark}
 use Rattle.map_script.specs.declared.placing.Placing.{Placing}
+use Rattle.map_script.specs.declared.referent.Answer.{Answer}
 
 -- the names of the script or the shape with what they stand for; how many of them, the first ones,
 -- blocks hold; the names outside of the shape, the innermost first; where the open blocks place a
--- line; whether a block is open; and the number that the script or the shape answered last
+-- line; whether a block is open; and what the script or the shape answered last
 pub record Scope : Type 0 where
   pub names : List (List ℕ × Meant)
   pub held : ℕ
   pub outer : List Layer
   pub placing : Placing
   pub is_within : Bool
-  pub answered : Option ℕ
+  pub answered : Option Answer
 
 -- before the first line of a script
 abbrev pub first_scope : Scope
@@ -89,7 +90,7 @@ with_shape s = record {
 }
 
 -- a command answered a number
-abbrev pub with_answer : Scope → ℕ → Scope
+abbrev pub with_answer : Scope → Answer → Scope
 with_answer s answer = record {
   names = s.names;
   held = s.held;
@@ -129,7 +130,7 @@ abbrev pub left : Scope → ℕ → Scope
 left s shapes = if nat_lt shapes (length s.outer) then with_layers s s.outer else s
 
 -- a later answer, or else an earlier one
-abbrev pub later_of : Option ℕ → Option ℕ → Option ℕ
+abbrev pub later_of : Option Answer → Option Answer → Option Answer
 later_of (Some answer) before = Some answer
 later_of None before = before
 

@@ -28,6 +28,8 @@ pub enum DrawError {
     NotAName,
     /// A word that begins with `$` isn't `$NAME`, `$NAME.KIND` or `$KIND(X,Y)`, with or without `+N` after it.
     NotAReference,
+    /// A word is the number of an item of another kind than stands in its place.
+    OtherKind,
     /// No earlier line has this name.
     UnknownName,
     /// The command of this name added no item of this kind.
@@ -108,6 +110,7 @@ impl DrawError {
                 21,
                 "a reference is $NAME or $NAME.KIND, with or without +N",
             ),
+            DrawError::OtherKind => (21, "the number of an item of another kind stands here"),
             DrawError::UnknownName => (22, "no line before has this name"),
             DrawError::NothingAdded => (23, "the command of this name added no such item"),
             DrawError::NumberTooLarge => (24, "the sum is greater than 32767"),

@@ -5,6 +5,7 @@ use crate::error::DrawError;
 use crate::firsts::Firsts;
 use crate::held::Held;
 use crate::meaning::Meaning;
+use crate::referent::Referent;
 use crate::text::copied;
 use indexmap::IndexMap;
 use std::alloc::Global;
@@ -20,7 +21,7 @@ impl Frame {
     ghost use Rattle.std.specs.Prelude.{◌≡◌, ◌∷◌, [], length, IfOk, IsOkUnless, OnErr, option_copied};
     ghost use Rattle.map_script.specs.Frames.{layer_of, known_in};
     ghost use Rattle.map_script.specs.Layers.{first_layer, layer_given, layer_held, layer_less};
-    ghost use Rattle.map_script.specs.Meant.{meant_by, meant_in, worded};
+    ghost use Rattle.map_script.specs.Meant.{meant_by, meant_in};
     ghost use Rattle.map_script.specs.declared.error.DrawError.TheVariants.{OutOfMemory};
 
     /// Without any name. It allocates no memory.
@@ -43,7 +44,7 @@ impl Frame {
         }
     }
 
-    /// Defines a name by words and first items, where it is held, else behind the others.
+    /// Defines a name by what it stands for, where it is held, else behind the others.
     ///
     /// # Errors
     ///
@@ -53,16 +54,22 @@ impl Frame {
         alloc: Global,
         name: &[u8],
         words: &[u8],
+        referent: Referent,
         firsts: Firsts,
     ) -> Result<(), DrawError>
         ensures ok { IfOk result (λ _. layer_of self.new ≡ layer_given (layer_of self.old) name.now
-            (record { words = words.now; firsts = firsts })) }
+            (record { words = words.now; referent = referent; firsts = firsts })) }
         ensures memory { IsOkUnless result OutOfMemory }
         ensures refused { OnErr result (layer_of self.new ≡ layer_of self.old) }
     {
         let key = copied(alloc, name)?;
         let words = copied(alloc, words)?;
-        let Some(meaning) = self.held.replace(name, Meaning { words, firsts }) else {
+        let meaning = Meaning {
+            words,
+            referent,
+            firsts,
+        };
+        let Some(meaning) = self.held.replace(name, meaning) else {
             return Ok(());
         };
         match self.table.insert(key, meaning) {
@@ -81,15 +88,21 @@ impl Frame {
         alloc: Global,
         name: &[u8],
         words: &[u8],
+        referent: Referent,
         firsts: Firsts,
     ) -> Result<(), DrawError>
         ensures ok { IfOk result (λ _. layer_of self.new ≡ layer_held (layer_of self.old) name.now
-            (record { words = words.now; firsts = firsts })) }
+            (record { words = words.now; referent = referent; firsts = firsts })) }
         ensures memory { IsOkUnless result OutOfMemory }
         ensures refused { OnErr result (layer_of self.new ≡ layer_of self.old) }
     {
         let words = copied(alloc, words)?;
-        self.held.push(alloc, name, Meaning { words, firsts })
+        let meaning = Meaning {
+            words,
+            referent,
+            firsts,
+        };
+        self.held.push(alloc, name, meaning)
     }
 
     /// Lets go of the newest held names, but for so many.

@@ -5,6 +5,7 @@ ghost use Rattle.map_script.specs.Lines.{TellsScriptFault, let_words, names_afte
 ghost use Rattle.map_script.specs.Words.{text_words};
 
 use crate::error::DrawError;
+use crate::kinds::only_kind;
 use crate::names::Names;
 use crate::own_words::is_own_word;
 use crate::reference::is_name;
@@ -26,7 +27,8 @@ pub fn let_words(line: &[u8]) -> Option<&[u8]>
     }
 }
 
-/// Gives words their name: `text` is the NAME WORD .. of a `let`. The words are resolved first.
+/// Gives words their name: `text` is the NAME WORD .. of a `let`. The words are resolved first. A single word that is
+/// the number of an item keeps the item's kind.
 ///
 /// # Errors
 ///
@@ -53,5 +55,6 @@ pub fn give_words(alloc: Global, names: &mut Names, map: &Map, text: &[u8]) -> R
         Ok(words) => words,
         Err(error) => return Err(error),
     };
-    names.define_words(alloc, name, &words)
+    let kind = only_kind(names, behind);
+    names.define_words(alloc, name, &words, kind)
 }

@@ -10,6 +10,8 @@ use crate::firsts::{NO_FIRSTS, Numbers};
 use crate::frame::Frame;
 use crate::meaning::Meaning;
 use crate::placing::{Placing, UNPLACED};
+use crate::referent::{Answer, Referent};
+use map_tables::Kind;
 use std::alloc::Global;
 
 /// What a block leaves as it was when it ends.
@@ -24,24 +26,24 @@ pub struct Mark {
     /// Whether a block was open.
     pub is_within: bool,
     /// What was answered last before it.
-    pub answered: Option<u32>,
+    pub answered: Option<Answer>,
 }
 
 /// The names defined so far, and how the open blocks place a line. A name that is defined again stands for what is
 /// newer. Names of open blocks, the newest last, hide those of the script, and go with their block. A shape has names
-/// of its own, which hide those of outside and go when its drawing ends. The number that the script, or the shape,
-/// answered last is known too.
+/// of its own, which hide those of outside and go when its drawing ends. What the script, or the shape, answered last
+/// is known too.
 #[derive(Drop)]
 pub struct Names {
     own: Frame,
     outer: Vec<Frame>,
     placing: Placing,
     is_within: bool,
-    answered: Option<u32>,
+    answered: Option<Answer>,
 }
 
 // What was answered later, or else earlier.
-fn later_of(answered: Option<u32>, before: Option<u32>) -> Option<u32>
+fn later_of(answered: Option<Answer>, before: Option<Answer>) -> Option<Answer>
     ensures { result ≡ later_of answered before }
 {
     match answered {
@@ -69,7 +71,7 @@ impl Names {
     ghost use Rattle.std.specs.Prelude.{◌≡◌, IfOk, IsOkUnless, OnErr, option_copied};
     ghost use Rattle.map_script.specs.declared.error.DrawError.TheVariants.{OutOfMemory};
     ghost use Rattle.map_script.specs.Known.{scope_of};
-    ghost use Rattle.map_script.specs.Meant.{meant_by, meant_in, numbered, worded};
+    ghost use Rattle.map_script.specs.Meant.{meant_by, meant_in, numbered, worded, worded_as};
     ghost use Rattle.map_script.specs.Scopes.{first_scope, left, mark_of, released, visible, with_answer, with_given, with_block, with_held, with_let, with_shape, with_turn_name};
 
     /// Without any name. It allocates no memory.
@@ -85,24 +87,32 @@ impl Names {
         }
     }
 
-    /// Defines a name by the numbers of a command: it stands for the number that the command answered.
+    /// Defines a name by the numbers of a command: it stands for the number that the command answered, which is the
+    /// number of `referent`.
     ///
     /// # Errors
     ///
     /// `OutOfMemory`: the names are unchanged.
-    pub fn define(&mut self, alloc: Global, name: &[u8], numbers: Numbers) -> Result<(), DrawError>
-        ensures ok { IfOk result
-            (λ _. scope_of self.new ≡ with_given (scope_of self.old) name.now (numbered numbers)) }
+    pub fn define(
+        &mut self,
+        alloc: Global,
+        name: &[u8],
+        numbers: Numbers,
+        referent: Referent,
+    ) -> Result<(), DrawError>
+        ensures ok { IfOk result (λ _. scope_of self.new
+            ≡ with_given (scope_of self.old) name.now (numbered numbers referent)) }
         ensures memory { IsOkUnless result OutOfMemory }
         ensures refused { OnErr result (scope_of self.new ≡ scope_of self.old) }
     {
         let answer = numbers.answer;
         let digits = format!(in alloc; "{answer}")?;
         self.own
-            .give(alloc, name, digits.as_bytes(), numbers.firsts)
+            .give(alloc, name, digits.as_bytes(), referent, numbers.firsts)
     }
 
-    /// Defines a name that stands for words, separated by single spaces. Where a block is open, the block holds it.
+    /// Defines a name that stands for words, separated by single spaces, and for the number of an item of a kind, if
+    /// one is given. Where a block is open, the block holds it.
     ///
     /// # Errors
     ///
@@ -112,16 +122,18 @@ impl Names {
         alloc: Global,
         name: &[u8],
         words: &[u8],
+        kind: Option<Kind>,
     ) -> Result<(), DrawError>
-        ensures ok { IfOk result
-            (λ _. scope_of self.new ≡ with_let (scope_of self.old) name.now (worded words.now)) }
+        ensures ok { IfOk result (λ _. scope_of self.new
+            ≡ with_let (scope_of self.old) name.now (worded_as words.now kind)) }
         ensures memory { IsOkUnless result OutOfMemory }
         ensures refused { OnErr result (scope_of self.new ≡ scope_of self.old) }
     {
+        let referent = Referent::of_kind(kind);
         if self.is_within {
-            self.own.hold(alloc, name, words, NO_FIRSTS)
+            self.own.hold(alloc, name, words, referent, NO_FIRSTS)
         } else {
-            self.own.give(alloc, name, words, NO_FIRSTS)
+            self.own.give(alloc, name, words, referent, NO_FIRSTS)
         }
     }
 
@@ -136,7 +148,8 @@ impl Names {
         ensures memory { IsOkUnless result OutOfMemory }
         ensures refused { OnErr result (scope_of self.new ≡ scope_of self.old) }
     {
-        self.own.hold(alloc, name, words, NO_FIRSTS)
+        self.own
+            .hold(alloc, name, words, Referent::Nothing, NO_FIRSTS)
     }
 
     /// Holds the name of a loop, which stands for the number of its turn, until the turn ends.
@@ -155,14 +168,14 @@ impl Names {
     }
 
     /// A command has answered a number.
-    pub fn put_answer(&mut self, answer: u32)
+    pub fn put_answer(&mut self, answer: Answer)
         ensures { scope_of self.new ≡ with_answer (scope_of self.old) answer }
     {
         self.answered = Some(answer);
     }
 
-    /// The number that the script, or the shape that is being drawn, answered last.
-    pub fn answered(&self) -> Option<u32>
+    /// What the script, or the shape that is being drawn, answered last.
+    pub fn answered(&self) -> Option<Answer>
         ensures { result ≡ (scope_of self.now).answered }
     {
         self.answered

@@ -1,18 +1,18 @@
-//! The numbers that references stand for: `$NAME`, `$NAME.KIND` or `$KIND(X,Y)`, with or without `+N`.
+//! The numbers that references stand for: `$NAME`, `$NAME.KIND`, `$NAME.WALL` or `$KIND(X,Y)`, with or without `+N`.
 ghost use Rattle.std.specs.Prelude.{◌≡◌, ◌≤◌, ◌<◌, ◌+◌, ◌-◌, ◌*◌, ◌==◌, min, nat_le, if◌then◌else◌, ◌^◌, length, position, IfSome, option_copied};
 ghost use Rattle.std.specs.List.{list_all};
 ghost use Rattle.map_commands.specs.Grammar.{kind_of};
 ghost use Rattle.map_commands.specs.Words.{is_numeral};
 ghost use Rattle.map_script.specs.Known.{scope_of};
-ghost use Rattle.map_script.specs.Meant.{meant_by, meant_in};
+ghost use Rattle.map_script.specs.Meant.{meant, meant_by, meant_in};
 ghost use Rattle.lump_records.specs.Names.{is_digit};
-ghost use Rattle.map_script.specs.Names.{added_by, cut, first_named, is_kind_part, is_natural_word, is_letter, is_no_reference, is_script_name, is_script_name_byte, is_sum_part, has_places, number_at_place, number_behind_bracket, number_by, number_by_place, number_for, number_in, number_placed, number_there, sum_of, sum_there, value_of, words_and};
+ghost use Rattle.map_script.specs.Names.{added_by, cut, item_named, is_kind_part, is_natural_word, is_letter, is_no_reference, is_script_name, is_script_name_byte, is_sum_part, has_places, number_at_place, number_behind_bracket, number_by, number_by_place, number_for, number_in, number_placed, number_there, sum_of, sum_there, value_of, wall_line, words_and};
 
 use crate::error::DrawError;
-use crate::firsts::Firsts;
 use crate::meaning::Meaning;
 use crate::names::Names;
 use crate::placing::{Placing, placed_vertex};
+use crate::referent::{Referent, wall_place};
 use lump_records::{GREATEST_COORDINATE, LEAST_COORDINATE, Vertex};
 use map_commands::{CommandError, kind_in, number_in as number_in_range};
 use map_plane::{line_at, sector_at, thing_at, vertex_at};
@@ -81,12 +81,12 @@ pub fn cut(text: &[u8], c: u8) -> (&[u8], Option<&[u8]>)
     }
 }
 
-// Whether there is no such part, or it is the word of a table.
+// Whether there is no such part, or it is the word of a table or of a wall.
 fn is_kind_part(part: Option<&[u8]>) -> bool
     ensures { result ≡ is_kind_part (option_copied part.entry) }
 {
     match part {
-        Some(word) => kind_in(word).is_some(),
+        Some(word) => kind_in(word).is_some() || wall_place(word).is_some(),
         None => true,
     }
 }
@@ -147,13 +147,33 @@ fn added_by(part: Option<&[u8]>) -> u64
     }
 }
 
-// The first item of a table, if there is such a table.
-fn first_named(firsts: &Firsts, kind: &[u8]) -> Option<u32>
-    ensures { result ≡ first_named firsts.now (kind_of kind.now) }
+// The number of a line, by the first of some and its place among them.
+fn wall_number(first: u32, place: u8) -> u64
+    ensures { result ≡ first + place }
 {
-    match kind_in(kind) {
-        Some(kind) => firsts.of(kind),
-        None => None,
+    u64::from(first) + u64::from(place)
+}
+
+// The line of a room's wall, by its place among the four.
+fn wall_line(meaning: &Meaning, place: Option<u8>) -> Option<u64>
+    ensures { result ≡ wall_line (meant meaning.now) place }
+{
+    match (meaning.referent, meaning.firsts.line, place) {
+        (Referent::Room, Some(first), Some(place)) => Some(wall_number(first, place)),
+        _ => None,
+    }
+}
+
+// The first item of a table, or the line of a wall.
+fn item_named(meaning: &Meaning, word: &[u8]) -> Option<u64>
+    ensures { result ≡ item_named (meant meaning.now) word.now (kind_of word.now) }
+{
+    match kind_in(word) {
+        Some(kind) => match meaning.firsts.of(kind) {
+            Some(number) => Some(u64::from(number)),
+            None => None,
+        },
+        None => wall_line(meaning, wall_place(word)),
     }
 }
 
@@ -169,13 +189,13 @@ fn sum_within(base: u64, more: u64) -> Option<u32>
 }
 
 // The sum of a base and the number that is added.
-fn sum_of(base: Option<u32>, more: Option<&[u8]>) -> Result<u32, DrawError>
+fn sum_of(base: Option<u64>, more: Option<&[u8]>) -> Result<u32, DrawError>
     ensures { result ≡ sum_of base (added_by (option_copied more.entry)) }
 {
     let Some(base) = base else {
         return Err(DrawError::NothingAdded);
     };
-    match sum_within(u64::from(base), added_by(more)) {
+    match sum_within(base, added_by(more)) {
         Some(sum) => Ok(sum),
         None => Err(DrawError::NumberTooLarge),
     }
@@ -204,7 +224,7 @@ fn number_in(
         (option_copied kind.entry) (option_copied more.entry) }
 {
     match (meaning, kind) {
-        (Some(meaning), Some(kind)) => sum_of(first_named(&meaning.firsts, kind), more),
+        (Some(meaning), Some(kind)) => sum_of(item_named(meaning, kind), more),
         (Some(meaning), None) => words_and(&meaning.words, more),
         (None, _) => Err(DrawError::UnknownName),
     }
@@ -277,7 +297,7 @@ fn sum_there(there: Option<u16>, more: Option<&[u8]>) -> Result<u32, DrawError>
     ensures { result ≡ sum_there there (added_by (option_copied more.entry)) }
 {
     match there {
-        Some(number) => sum_of(Some(u32::from(number)), more),
+        Some(number) => sum_of(Some(u64::from(number)), more),
         None => Err(DrawError::NothingThere),
     }
 }

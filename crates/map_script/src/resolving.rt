@@ -1,9 +1,10 @@
 //! Resolves a cleaned line of a script to a command line.
-ghost use Rattle.std.specs.Prelude.{◌≡◌, ◌++◌, ◌<◌, ◌==◌, IfErr, IfOk, IsOkUnless, Ok, option_copied, slice_index};
+ghost use Rattle.std.specs.Prelude.{◌≡◌, ◌++◌, ◌<◌, ◌==◌, IfErr, IfOk, IfSome, IsOkUnless, Ok, Some, option_copied, slice_index};
 ghost use Rattle.std.specs.List.{list_any};
 ghost use Rattle.map_script.specs.declared.error.DrawError.TheVariants.{OutOfMemory};
+ghost use Rattle.map_script.specs.Kinds.{field_parts, misfit_in, misfit_told};
 ghost use Rattle.map_script.specs.Known.{scope_of};
-ghost use Rattle.map_script.specs.Lines.{MakesWord, PutsWord, TellsScriptFault, command_words, field_parts, has_good_name, is_reckoned, joined_line, line_for, name_in, named_word, reckoned_word, reference_word, sum_word, word_for, words_for};
+ghost use Rattle.map_script.specs.Lines.{MakesWord, PutsWord, TellsScriptFault, command_words, has_good_name, is_reckoned, joined_line, line_for, name_in, named_word, reckoned_word, reference_word, sum_word, word_for, words_for};
 ghost use Rattle.map_script.specs.Meant.{meant_by};
 ghost use Rattle.map_script.specs.Names.{number_for};
 ghost use Rattle.map_script.specs.Scopes.{visible};
@@ -12,9 +13,11 @@ ghost use Rattle.map_script.specs.Texts.{with_word};
 ghost use Rattle.map_script.specs.Words.{text_words};
 
 use crate::error::DrawError;
+use crate::kinds::{Misfit, field_parts, first_misfit};
 use crate::names::Names;
 use crate::placed::placed_text;
-use crate::reference::{is_name, is_no_reference, number_for, place_of};
+use crate::reference::{is_name, is_no_reference, number_for};
+use crate::referent::wanted_in;
 use crate::sums::sum_value;
 use crate::text::without_first;
 use crate::words::next_word;
@@ -158,16 +161,6 @@ fn reckoned_word(alloc: Global, names: &Names, map: &Map, text: &[u8]) -> Result
     }
 }
 
-// `NAME=` and VALUE of a word, or nothing and the whole word.
-fn field_parts(word: &[u8]) -> (&[u8], &[u8])
-    ensures { (result.0.now, result.1.now) ≡ field_parts word.now }
-{
-    match place_of(word, b'=') {
-        Some(i) if is_name(&word[..i]) => (&word[..i + 1], &word[i + 1..]),
-        _ => (&[], word),
-    }
-}
-
 // Appends a space and a word in two parts.
 fn put_parts(text: &mut Vec<u8>, front: &[u8], back: &[u8]) -> Result<(), DrawError>
     ensures ok { IfOk result
@@ -233,7 +226,8 @@ pub fn replaced(
 ///
 /// # Errors
 ///
-/// `NotAName`, or otherwise the error of the leftmost reference that stands for no number; or `OutOfMemory`.
+/// `NotAName`, or otherwise the error of the leftmost reference that stands for no number, or else `OtherKind` if a
+/// word is the number of another kind of item than its place wants; or `OutOfMemory`.
 pub fn resolve(alloc: Global, names: &Names, map: &Map, line: &[u8]) -> Result<Vec<u8>, DrawError>
     ensures ok { IfOk result
         (λ text. line_for (scope_of names.now) map.now.tables line.now ≡ Ok text.items) }
@@ -244,8 +238,26 @@ pub fn resolve(alloc: Global, names: &Names, map: &Map, line: &[u8]) -> Result<V
     if !has_good_name(name) {
         return Err(DrawError::NotAName);
     }
+    let text = match replaced(alloc, names, map, command) {
+        Ok(text) => text,
+        Err(error) => return Err(error),
+    };
+    match first_misfit(names, wanted_in(&text), command) {
+        Some(_) => Err(DrawError::OtherKind),
+        None => placed_text(alloc, names.placing(), text),
+    }
+}
+
+/// The first word of a line that is the number of another kind of item than its place wants, if the line's names and
+/// places stand for something and there is memory.
+pub fn misfit_in<'a>(alloc: Global, names: &Names, map: &Map, line: &'a [u8]) -> Option<Misfit<'a>>
+    ensures { let words = command_words (text_words line.now) in
+        let line = joined_line (words_for (scope_of names.now) map.now.tables words) in
+        IfSome result (λ m. misfit_in (scope_of names.now) words line ≡ Some (misfit_told m)) }
+{
+    let command = command_of(line);
     match replaced(alloc, names, map, command) {
-        Ok(text) => placed_text(alloc, names.placing(), text),
-        Err(error) => Err(error),
+        Ok(text) => first_misfit(names, wanted_in(&text), command),
+        Err(_) => None,
     }
 }

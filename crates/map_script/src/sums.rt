@@ -14,8 +14,8 @@ use crate::reckoning::{item_at, negated, number_of, reckoned_of};
 use crate::reference::{is_no_reference, number_for};
 use map_tables::{Kind, Map};
 
-// What stands behind a `$` at the beginning of a text.
-fn reference_in(text: &[u8]) -> Option<&[u8]>
+/// What stands behind a `$` at the beginning of a text.
+pub fn reference_in(text: &[u8]) -> Option<&[u8]>
     ensures { option_copied result ≡ behind_byte 36 text.now }
 {
     match text {

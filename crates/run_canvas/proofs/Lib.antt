@@ -1,1 +1,3 @@
+pub mod Origins
 pub mod Putting
+pub mod Gathering

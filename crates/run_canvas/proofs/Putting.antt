@@ -12,8 +12,9 @@ use Rattle.store_project.specs.Stands.{StandsForEither}
 use Rattle.store_project.specs.States.{IsProjectKept, State}
 use Rattle.store_project.specs.declared.error.ProjectError.{ProjectError}
 use Rattle.store_project.specs.declared.error.ProjectError.TheVariants.{Device, OutOfMemory, Reopen, GenerationsSpent, Refused, Damaged, Blank, NotAProject, NotEmpty, BadGeometry}
-use Rattle.run_canvas.specs.Waiting.{AreFlagsKept, ChangesProject, Drawing, IsApplied, IsStaged, IsUnchanged, Loses, Settles, AreWaiting, drawn_maps, maps_behind}
+use Rattle.run_canvas.specs.Waiting.{AreFlagsKept, CannotWait, ChangesProject, Drawing, IsApplied, IsStaged, IsUnchanged, Loses, Settles, AreWaiting, drawn_maps, maps_behind}
 use Rattle.run_canvas.specs.LossLaws.{lost_unchanged}
+use Rattle.run_canvas.specs.Rooms.{MakesRoom, PutsBefore, TurnsFor}
 
 not_refused : {T E : Type 0} (x : T) (e : E) → Ok x ≡ Err e → ⊥
 not_refused x e same = cc
@@ -119,15 +120,25 @@ module _ {D : Type 0} (facts : Ghosts D) where
     put = put_on old mid new old.group refl same settled;
   }
 
-  pub alone_behind : (old mid new : Drawing D) (line : List ℕ) (outcome : Result ℕ ℕ) → IsUnchanged old mid
+  pub alone_behind : (old mid new : Drawing D) (line : List ℕ) (outcome : Result ℕ ℕ) → CannotWait old line → IsUnchanged old mid
       → IsApplied facts mid line outcome new ⊎ ((outcome ≡ Err 30) × Loses facts mid new) → ChangesProject facts old line outcome new
-  alone_behind old mid new line outcome same (inl applied) = inr (inl (record {
-    mid = applied.mid;
-    settled = unchanged_settled old mid applied.mid same applied.settled;
-    answer = applied.answer;
-    applied = applied.applied;
-    is = applied.is;
-    none = applied.none;
-    flags = record { alone = applied.flags.alone ∙ same.flags.alone; lost = applied.flags.lost ∙ same.flags.lost };
-  }))
-  alone_behind old mid new line outcome same (inr (is, gone)) = inr (inr (inl (is, lost_unchanged facts old mid new same gone)))
+  alone_behind old mid new line outcome why same (inl applied) = inr (inl (
+    why,
+    record {
+      mid = applied.mid;
+      settled = unchanged_settled old mid applied.mid same applied.settled;
+      answer = applied.answer;
+      applied = applied.applied;
+      is = applied.is;
+      none = applied.none;
+      flags = record { alone = applied.flags.alone ∙ same.flags.alone; lost = applied.flags.lost ∙ same.flags.lost };
+    },
+  ))
+  alone_behind old mid new line outcome why same (inr (is, gone)) = inr (inr (inl (is, lost_unchanged facts old mid new same gone)))
+
+  -- ---- Room for lines that are to wait together
+
+  pub turned_behind : (old mid new : Drawing D) (lines : List (List ℕ)) (refusal : Option ℕ) → PutsBefore facts old lines mid → TurnsFor facts mid lines refusal new
+      → MakesRoom facts old lines refusal new
+  turned_behind old mid new lines None put turns = inr (mid, put, turns)
+  turned_behind old mid new lines (Some code) put turns = inr (mid, put, turns)

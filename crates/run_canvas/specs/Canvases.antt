@@ -9,6 +9,7 @@ use Rattle.run_edit.specs.Answers.{ChangesBy}
 use Rattle.run_edit.specs.Queries.{IsAnswer, TakesMemory, query_of}
 use Rattle.run_edit.specs.declared.limits.TheConstants.{LONGEST_BODY}
 use Rattle.run_edit.specs.declared.query.Query.{Query}
+use Rattle.run_canvas.specs.Rooms.{MakesRoom}
 use Rattle.run_canvas.specs.Waiting.{BeginsLine, ChangesProject, Drawing, Loses, Settles, drawn_maps}
 use Rattle.run_canvas.specs.declared.canvas.Canvas as canvas
 
@@ -90,7 +91,8 @@ project_canvas facts = record {
   cap_in = λ d. d.project.cap;
   is_query = is_query_line;
   tells = TellsBehind facts;
-  begins = BeginsLine facts;
+  begins = λ old place alone new. BeginsLine facts old alone new;
+  makes_room = MakesRoom facts;
   settles = Settles facts;
   loses = Loses facts;
   is_alone = λ d. d.is_alone;
@@ -106,7 +108,8 @@ draft_canvas = record {
   cap_in = λ d. d.cap;
   is_query = is_query_line;
   tells = TellsOfDraft;
-  begins = λ old alone new. new ≡ old;
+  begins = λ old place alone new. new ≡ old;
+  makes_room = λ old lines refusal new. (refusal ≡ None) × (new ≡ old);
   settles = λ old new. new ≡ old;
   loses = λ old new. ⊥;
   is_alone = λ _. true;

@@ -2,5 +2,10 @@ pub mod Canvases
 pub mod Drawings
 pub mod Errors
 pub mod LossLaws
+pub mod OriginDrafts
+pub mod OriginFields
+pub mod Origins
 pub mod PutLaws
+pub mod RoomLaws
+pub mod Rooms
 pub mod Waiting

@@ -115,7 +115,7 @@ module _ {D : Type 0} (facts : Ghosts D) where
       (inl staged) lost = staged_since old new last line n old.group refl staged lost
   lost_since old new last line (Err code) (inl (same, refused)) lost = inl
       (same.earlier, lost_unchanged old new last same lost)
-  lost_since old new last line outcome (inr (inl applied)) lost = absurd
+  lost_since old new last line outcome (inr (inl (why, applied))) lost = absurd
       (none_lost new last applied.none lost)
   lost_since old new last line outcome (inr (inr (inl (is, gone)))) lost = absurd
       (none_lost new last gone.none lost)

@@ -23,7 +23,7 @@ module _ {D : Type 0} (facts : Ghosts D) where
       → ChangesProject facts old line (Err code) new → new.has_lost ≡ true
       → (old.has_lost ≡ true) ⊎ ((code ≡ 30) × (old.holds_earlier ≡ true) × Loses facts old new)
   lost_within old new line code (inl (same, refused)) is = inl (sym same.flags.lost ∙ is)
-  lost_within old new line code (inr (inl applied)) is = inl (sym applied.flags.lost ∙ is)
+  lost_within old new line code (inr (inl (why, applied))) is = inl (sym applied.flags.lost ∙ is)
   lost_within old new line code (inr (inr (inl (err, gone)))) is = inr
       (err_is code 30 err, sym gone.lost ∙ is, gone)
   lost_within old new line code (inr (inr (inr (err, gone)))) is = absurd (true≢false
@@ -33,7 +33,7 @@ module _ {D : Type 0} (facts : Ghosts D) where
       → ChangesProject facts old line (Ok n) new
       → (new.is_alone ≡ old.is_alone) × (new.has_lost ≡ old.has_lost)
   alone_stays old new line n (inl staged) = (staged.flags.alone, staged.flags.lost)
-  alone_stays old new line n (inr (inl applied)) = (applied.flags.alone, applied.flags.lost)
+  alone_stays old new line n (inr (inl (why, applied))) = (applied.flags.alone, applied.flags.lost)
   alone_stays old new line n (inr (inr (inl (is, gone)))) = absurd (not_ok n 30 is)
   alone_stays old new line n (inr (inr (inr (is, gone)))) = absurd (not_ok n 30 is)
 

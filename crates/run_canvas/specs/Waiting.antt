@@ -1,10 +1,11 @@
 -- A project with commands of a script that wait, and how they come to wait, are put and are lost.
 use Rattle.std.specs.Prelude.{◌≡◌, ◌⊎◌, ℕ, Bool, true, false, List, [], ◌∷◌, ◌++◌, Option, None, Some, Result, Ok, Err, MatchOption, is_some}
+use Rattle.std.specs.Bool.{⊤}
 use Rattle.store_disk.specs.declared.disk.Disk.{Ghosts}
 use Rattle.map_tables.specs.Projects.{ProjectMaps, project_of}
 use Rattle.map_commands.specs.ProjectLines.{Accepts}
 use Rattle.store_project.specs.Calls.{Applies, PutsGroup}
-use Rattle.store_project.specs.Groups.{CanPut, GroupState, RefusesStage, Staged}
+use Rattle.store_project.specs.Groups.{CanPut, GroupState, IsFullFor, RefusesStage, Staged}
 use Rattle.store_project.specs.Refusals.{code_of}
 use Rattle.store_project.specs.States.{State}
 use Rattle.store_project.specs.declared.error.ProjectError.{ProjectError}
@@ -124,6 +125,12 @@ pub record IsLostWith {D : Type 0} (facts : Ghosts D) (old : Drawing D) (line : 
   pub none : new.group ≡ None
   pub lost : new.has_lost ≡ false
 
+-- Why a command is put by itself: each one is; or the journal has no room for it behind those that
+-- wait; or none waits, and there may be no memory for a group.
+abbrev pub CannotWait : {D : Type 0} → Drawing D → List ℕ → Type 0
+CannotWait old line =
+    (old.is_alone ≡ true) ⊎ MatchOption old.group ⊤ (λ g. IsFullFor old.project g line)
+
 -- How a command of a script ended. It was decided behind those that wait; or it was put by itself,
 -- behind what waited; or what was put is lost (30): what waited, or the command with others behind
 -- it.
@@ -131,7 +138,7 @@ abbrev pub ChangesProject : {D : Type 0} → Ghosts D → Drawing D → List ℕ
     → Type 0
 ChangesProject facts old line outcome new =
     Stages old line outcome new
-    ⊎ (IsApplied facts old line outcome new
+    ⊎ ((CannotWait old line × IsApplied facts old line outcome new)
     ⊎ (((outcome ≡ Err 30) × Loses facts old new)
     ⊎ ((outcome ≡ Err 30) × IsLostWith facts old line new)))
 

@@ -1,5 +1,5 @@
 //! What a script is drawn onto.
-ghost use Rattle.std.specs.Prelude.{◌≡◌, ◌⊎◌, ℕ, Bool, true, false, List, Option, Some, None, Result, Ok, Err, MatchResult};
+ghost use Rattle.std.specs.Prelude.{◌≡◌, ◌⊎◌, ℕ, Bool, true, false, List, Option, Some, None, Result, Ok, Err, MatchResult, map, vec_items};
 ghost use Rattle.std.specs.Io.KnownBytes.{Keeps};
 ghost use Rattle.map_tables.specs.Projects.{ProjectMaps, project_of};
 ghost use Rattle.run_canvas.specs.declared.error.ScriptError.TheVariants.{WriterFailed};
@@ -28,8 +28,12 @@ pub trait Canvas {
     // holds before and after. Nothing waits then.
     ghost tells: { Self → List ℕ → Option ℕ → Self → Option (List ℕ) → Option (List ℕ) → Type 0 };
 
-    // A line is begun, and each of its commands is put by itself, or may wait. What waits may be put before it.
-    ghost begins: { Self → Bool → Self → Type 0 };
+    // The line at a place of the script is begun, and each of its commands is put by itself, or may wait. What waits
+    // may be put before it.
+    ghost begins: { Self → ℕ → Bool → Self → Type 0 };
+
+    // Room was made for lines that are to wait together; or that was refused with this code. What waits may be put.
+    ghost makes_room: { Self → List (List ℕ) → Option ℕ → Self → Type 0 };
 
     // What waits was put.
     ghost settles: { Self → Self → Type 0 };
@@ -78,11 +82,16 @@ pub trait Canvas {
             (W.contents writer.new))
             (λ e. (e ≡ WriterFailed) × settles self.old self.new) };
 
-    /// Begins a line of a script. Its commands are put by themselves if `alone`, or else may wait. Returns whether
-    /// what waited before it could be put, if that was due.
-    fn begin_line(&mut self, alone: bool) -> bool
-        ensures begun { result ≡ true → begins self.old alone self.new }
+    /// Begins the line of a script that stands at a place among its lines, from 0: it adds what is added from now on.
+    /// Its commands are put by themselves if `alone`, or else may wait. Returns whether what waited before it could be
+    /// put, if that was due.
+    fn begin_line(&mut self, place: usize, alone: bool) -> bool
+        ensures begun { result ≡ true → begins self.old place alone self.new }
         ensures lost { result ≡ false → loses self.old self.new };
+
+    /// Makes room for lines that are to wait together, if it can be had. Returns the code of a refusal.
+    fn make_room(&mut self, lines: &[Vec<u8>]) -> Option<u16>
+        ensures { makes_room self.old (map vec_items lines.now) result self.new };
 
     /// Puts what waits, and returns whether it could.
     fn settle(&mut self) -> bool
@@ -128,10 +137,23 @@ pub trait Canvas {
         × Keeps writer-old writer-new) };
 
     // What waits when a line is begun waited before.
-    ghost begun: { (old new : Self) (is-alone : Bool) → begins old is-alone new
+    ghost begun: { (old new : Self) (place : ℕ) (is-alone : Bool) → begins old place is-alone new
         → (has_lost new ≡ false) × (is_alone new ≡ false → is-alone ≡ false)
         × ((last : Self) → loses new last → (holds_earlier new ≡ true)
         × ((other : Self) × loses old other × settles other last)) };
+
+    // What waits when room was made waited before.
+    ghost room_made: { (old new : Self) (lines : List (List ℕ)) → makes_room old lines None new
+        → (is_alone new ≡ is_alone old) × (has_lost new ≡ has_lost old)
+        × ((last : Self) → loses new last
+        → (holds_earlier new ≡ holds_earlier old) × loses old last) };
+
+    // Nothing waits where room was refused. If what earlier lines had was lost, that is what was refused.
+    ghost room_refused: { (old new : Self) (lines : List (List ℕ)) (code : ℕ)
+        → makes_room old lines (Some code) new
+        → ((last : Self) → ¬ loses new last)
+        × (has_lost new ≡ true → (has_lost old ≡ true)
+        ⊎ ((code ≡ 30) × (holds_earlier old ≡ true) × loses old new)) };
 
     // Nothing waits behind what is lost.
     ghost lost_settled: { (old new : Self) → loses old new → settles new new };

@@ -1,5 +1,5 @@
 //! Maps in memory, on which a script is tried.
-ghost use Rattle.std.specs.Prelude.{◌≡◌, ◌≤◌, IfOk, true, false};
+ghost use Rattle.std.specs.Prelude.{◌≡◌, ◌≤◌, IfOk, None, true, false};
 ghost use Rattle.run_edit.specs.Answers.{outcome_of};
 ghost use Rattle.map_tables.specs.Projects.{body_len, project_of};
 ghost use Rattle.run_canvas.specs.Canvases.{ChangesDraft, Drafted, TellsOfDraft, first_draft, is_query_line};
@@ -53,8 +53,8 @@ impl Draft {
     }
 }
 
-// The outcome of a command: its number, or the refusal's code.
-fn outcome_of(ended: Result<u32, CommandError>) -> Result<u32, u16>
+/// The outcome of a command: its number, or the refusal's code.
+pub(crate) fn outcome_of(ended: Result<u32, CommandError>) -> Result<u32, u16>
     ensures { result ≡ outcome_of ended }
 {
     match ended {
@@ -77,7 +77,9 @@ impl Canvas for Draft {
 
     ghost tells = { TellsOfDraft };
 
-    ghost begins = { λ old alone new. new ≡ old };
+    ghost begins = { λ old place alone new. new ≡ old };
+
+    ghost makes_room = { λ old lines refusal new. (refusal ≡ None) × (new ≡ old) };
 
     ghost settles = { λ old new. new ≡ old };
 
@@ -118,8 +120,12 @@ impl Canvas for Draft {
         tell_of(alloc, &self.maps, line, writer)
     }
 
-    fn begin_line(&mut self, _alone: bool) -> bool {
+    fn begin_line(&mut self, _place: usize, _alone: bool) -> bool {
         true
+    }
+
+    fn make_room(&mut self, _lines: &[Vec<u8>]) -> Option<u16> {
+        None
     }
 
     fn settle(&mut self) -> bool {
@@ -144,10 +150,17 @@ impl Canvas for Draft {
 
     ghost loss_told = { λ old new line code u w told lost. absurd (true≢false (sym lost)) };
 
-    ghost begun = { λ old new alone is. (
+    ghost begun = { λ old new place alone is. (
       refl,
       λ together. absurd (true≢false together),
       λ last lost. absurd lost,
+    ) };
+
+    ghost room_made = { λ old new lines made. (refl, refl, λ last lost. absurd lost) };
+
+    ghost room_refused = { λ old new lines code refused. (
+      λ last lost. lost,
+      λ lost. absurd (true≢false (sym lost)),
     ) };
 
     ghost lost_settled = { λ old new lost. absurd lost };

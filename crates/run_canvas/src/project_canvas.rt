@@ -1,6 +1,6 @@
 //! A project file, onto which a script is drawn. Its commands wait in a group, and go to the disk together.
-ghost use Rattle.std.specs.Prelude.{◌≡◌, ◌⊎◌, ℕ, List, None, Some, Ok, Err, true, false, Result, MatchOption};
-ghost use Rattle.store_project.specs.Groups.{IsGroupFor};
+ghost use Rattle.std.specs.Prelude.{◌≡◌, ◌⊎◌, ℕ, List, None, Some, Ok, Err, true, false, Result, MatchOption, map, vec_items};
+ghost use Rattle.store_project.specs.Groups.{IsFullFor, IsGroupFor};
 ghost use Rattle.run_edit.specs.Editing.{outcome_in};
 ghost use Rattle.store_project.specs.declared.error.ProjectError.{ProjectError};
 ghost use Rattle.run_canvas.specs.Canvases.{is_query_line};
@@ -19,8 +19,8 @@ use store_project::{Project, ProjectError, ProjectGroup};
 const MOST_STAGED: usize = 65_536;
 
 /// A project onto which a script is drawn. Accepted commands wait in a group, which goes to the disk at once: before
-/// the answer to a query is written, where the next line is begun behind 64 KB of commands, where the journal is full,
-/// and at the script's end.
+/// the answer to a query is written, where the next line is begun behind 64 KB of commands, where the journal has no
+/// room for the next command or for all commands of the next shape, and at the script's end.
 pub struct ProjectCanvas<D: Disk> {
     project: Project<D>,
     group: Option<ProjectGroup>,
@@ -54,7 +54,8 @@ fn outcome_in(answer: Result<u32, ProjectError>) -> Result<u32, u16>
 impl<D: Disk> ProjectCanvas<D> {
     ghost use Rattle.store_project.specs.Calls.{Applies};
     ghost use Rattle.run_canvas.specs.Canvases.{NothingWaits, project_canvas};
-    ghost use Rattle.run_canvas.specs.Waiting.{IsApplied, IsUnchanged, Loses, Settles, Stages, first_drawing};
+    ghost use Rattle.run_canvas.specs.Rooms.{LacksRoomFor, TurnsFor, waiting_len};
+    ghost use Rattle.run_canvas.specs.Waiting.{CannotWait, IsApplied, IsUnchanged, Loses, Settles, Stages, first_drawing};
 
     /// A project onto which nothing is drawn yet.
     pub fn new(project: Project<D>) -> Self
@@ -94,6 +95,7 @@ impl<D: Disk> ProjectCanvas<D> {
         ensures staged { MatchOption result
             (IsUnchanged (record self.old { group = Some group }) self.new)
             (λ outcome. Stages (record self.old { group = Some group }) line.now outcome self.new) }
+        ensures full { result ≡ None → IsFullFor self.old.project group line.now }
     {
         let mut group = group;
         let staged = self.project.stage(&mut group, line);
@@ -136,6 +138,7 @@ impl<D: Disk> ProjectCanvas<D> {
         requires together { self.old.is_alone ≡ false }
         ensures staged { MatchOption result (IsUnchanged self.old self.new)
             (λ outcome. Stages self.old line.now outcome self.new) }
+        ensures alone { result ≡ None → CannotWait self.old line.now }
     {
         match self.group.take() {
             Some(group) => self.stage_behind(group, line),
@@ -191,12 +194,46 @@ impl<D: Disk> ProjectCanvas<D> {
         }
         self.apply(line)
     }
+
+    // How many bytes of the journal what waits takes.
+    fn waiting_len(&self) -> usize
+        ensures { result ≡ waiting_len self.now.group }
+    {
+        match &self.group {
+            Some(group) => group.records_len(),
+            None => 0,
+        }
+    }
+
+    // Whether the journal has room for these lines behind what waits.
+    fn has_room_for(&self, lines: &[Vec<u8>]) -> bool
+        ensures full { result ≡ false → LacksRoomFor self.now (map vec_items lines.now) }
+        ensures room { result ≡ true → ¬ LacksRoomFor self.now (map vec_items lines.now) }
+    {
+        self.project.has_room_for(self.waiting_len(), lines)
+    }
+
+    // Empties the journal by a checkpoint, unless it has room for these lines. Returns the code of a refusal.
+    fn turn_for(&mut self, lines: &[Vec<u8>]) -> Option<u16>
+        requires { self.old.group ≡ None }
+        ensures { TurnsFor D.Disk self.old (map vec_items lines.now) result self.new }
+    {
+        if self.has_room_for(lines) {
+            return None;
+        }
+        match self.project.checkpoint() {
+            Ok(_) => None,
+            Err(error) => Some(error.code()),
+        }
+    }
 }
 
 impl<D: Disk> Canvas for ProjectCanvas<D> {
     ghost use Rattle.run_canvas.specs.Canvases.{TellsBehind};
     ghost use Rattle.run_canvas.specs.Waiting.{BeginsLine, ChangesProject, Loses, Settles, drawn_maps};
     ghost use Rattle.run_canvas.specs.LossLaws.{lost_since};
+    ghost use Rattle.run_canvas.specs.RoomLaws.{room_made, room_refused};
+    ghost use Rattle.run_canvas.specs.Rooms.{MakesRoom};
     ghost use Rattle.run_canvas.specs.PutLaws.{alone_stays, lost_settled, lost_told, lost_within, nothing_told, settled_again, waited_before};
 
     ghost changes = { ChangesProject D.Disk };
@@ -209,7 +246,9 @@ impl<D: Disk> Canvas for ProjectCanvas<D> {
 
     ghost tells = { TellsBehind D.Disk };
 
-    ghost begins = { BeginsLine D.Disk };
+    ghost begins = { λ old place alone new. BeginsLine D.Disk old alone new };
+
+    ghost makes_room = { MakesRoom D.Disk };
 
     ghost settles = { Settles D.Disk };
 
@@ -262,7 +301,7 @@ impl<D: Disk> Canvas for ProjectCanvas<D> {
         tell_of(alloc, self.project.maps(), line, writer)
     }
 
-    fn begin_line(&mut self, alone: bool) -> bool {
+    fn begin_line(&mut self, _place: usize, alone: bool) -> bool {
         let is_due = alone || self.staged >= MOST_STAGED;
         if !self.put_if(is_due) {
             return false;
@@ -271,6 +310,16 @@ impl<D: Disk> Canvas for ProjectCanvas<D> {
         self.holds_earlier = self.group.is_some();
         self.has_lost = false;
         true
+    }
+
+    fn make_room(&mut self, lines: &[Vec<u8>]) -> Option<u16> {
+        if self.is_alone || self.has_room_for(lines) {
+            return None;
+        }
+        if !self.put() {
+            return Some(ProjectError::Device.code());
+        }
+        self.turn_for(lines)
     }
 
     fn settle(&mut self) -> bool {
@@ -296,7 +345,11 @@ impl<D: Disk> Canvas for ProjectCanvas<D> {
 
     ghost loss_told = { λ old new line code u w. lost_told _ old new line code u w };
 
-    ghost begun = { λ old new alone. waited_before _ old new alone };
+    ghost begun = { λ old new place alone. waited_before _ old new alone };
+
+    ghost room_made = { λ old new lines. room_made _ old new lines };
+
+    ghost room_refused = { λ old new lines code. room_refused _ old new lines code };
 
     ghost lost_settled = { λ old new. lost_settled _ old new };
 

@@ -6,6 +6,7 @@ mod call_reasons;
 mod calling;
 mod explaining;
 mod forms;
+mod kind_reasons;
 mod open_blocks;
 mod particulars;
 mod reasons;

@@ -5,6 +5,7 @@ use crate::block_reasons::{reason_of_at, reason_of_define, reason_of_let, reason
 use crate::call_reasons::{called_at, reason_of_call};
 use crate::calling::says;
 use crate::forms::{count_words, first_word, form_near, form_of, range_at};
+use crate::kind_reasons::{nothing_added, other_kind};
 use crate::particulars::{in_use, map_names, too_long};
 use crate::shape_reasons::{decide, meant_shape, places_of};
 use crate::unfit::{form_meant, unfit};
@@ -240,8 +241,8 @@ fn reason_of_shape(
     }
 }
 
-// The word of a line that is refused with this error.
-fn bad_word<'a>(
+/// The word of a line that is refused with this error.
+pub fn bad_word<'a>(
     alloc: Global,
     map: &Map,
     names: &Names,
@@ -316,6 +317,8 @@ pub fn reason_of_reference(
         DrawError::NotAReference if line.contains('(') => format!(in alloc;
             "a place is $vertex(X,Y), $line(X,Y), $sector(X,Y) or $thing(X,Y), with or without +N"
         ),
+        DrawError::OtherKind => other_kind(alloc, map, names, line),
+        DrawError::NothingAdded => nothing_added(alloc, map, names, line),
         _ => says(alloc, error.code()),
     }
 }

@@ -5,7 +5,7 @@ use Rattle.store_disk.specs.Moments.{LeavesOnly}
 use Rattle.store_disk.specs.declared.disk.Disk.{Ghosts}
 use Rattle.map_tables.specs.Projects.{empty_project, project_of}
 use Rattle.store_project.specs.Calls.{AllMade, Made, ProjectCall, PutsGroup}
-use Rattle.store_project.specs.Calls.ProjectCall.{Apply, Put}
+use Rattle.store_project.specs.Calls.ProjectCall.{Apply, Checkpoint, Put}
 use Rattle.store_project.specs.Groups.{CanPut, GroupState, Staged}
 use Rattle.store_project.specs.Sessions.{Creates, HoldsEach, IsLeftBy, KeepEach, Opens, PassInTurn, Passes, Session}
 use Rattle.store_project.specs.States.{State}
@@ -16,6 +16,7 @@ use Rattle.run_edit.proofs.DeedCalls.{go_parted}
 use Rattle.run_canvas.specs.Canvases.{TellsBehind, project_canvas}
 use Rattle.run_canvas.specs.LossLaws.{no_group}
 use Rattle.run_canvas.specs.PutLaws.{settled_same}
+use Rattle.run_canvas.specs.Rooms.{IsCheckpointed, MakesRoom, TurnsFor}
 use Rattle.run_canvas.specs.Waiting.{AreWaiting, BeginsLine, ChangesProject, Drawing, Loses, Settles, Stages, first_drawing}
 use Rattle.run_script.specs.Drawn.{IsScriptDrawn}
 use Rattle.run_script.specs.Stopped.{HoldsAtMoments, session_of}
@@ -71,7 +72,7 @@ module _ {D : Type 0} (facts : Ghosts D) (first : State D) where
 
   change : (old new : Drawing D) (line : List ℕ) (outcome : Result ℕ ℕ) → HasCalls facts first old → ChangesProject facts old line outcome new → HasCalls facts first new
   change old new line outcome had (inl staged) = stage old new line outcome had staged
-  change old new line outcome had (inr (inl applied)) =
+  change old new line outcome had (inr (inl (why, applied))) =
       one_more applied.mid new (Apply line applied.answer) (settle old applied.mid had applied.settled) applied.applied applied.none
   change old new line outcome had (inr (inr (inl (is, lost)))) = lose old new had lost
   change old new line outcome had (inr (inr (inr (is, lost)))) =
@@ -86,18 +87,35 @@ module _ {D : Type 0} (facts : Ghosts D) (first : State D) where
   settle_if old mid had (inl same) = subst (λ (d : Drawing D). HasCalls facts first d) (sym same) had
   settle_if old mid had (inr settled) = settle old mid had settled
 
-  begin : (old new : Drawing D) (b : Bool) → HasCalls facts first old → BeginsLine facts old b new → HasCalls facts first new
-  begin old new b had begun = subst (λ (d : Drawing D). HasCalls facts first d) (sym begun.is) (begin_at begun.mid b (settle_if old begun.mid had begun.settled))
+  begin : (old new : Drawing D) (place : ℕ) (b : Bool) → HasCalls facts first old → BeginsLine facts old b new → HasCalls facts first new
+  begin old new place b had begun = subst (λ (d : Drawing D). HasCalls facts first d) (sym begun.is) (begin_at begun.mid b (settle_if old begun.mid had begun.settled))
 
   tell : (old new : Drawing D) (line : List ℕ) (refusal : Option ℕ) (u w : Option (List ℕ)) → HasCalls facts first old → TellsBehind facts old line refusal new u w → HasCalls facts first new
   tell old new line refusal u w had (inl (settled, same, told)) = settle old new had settled
   tell old new line refusal u w had (inr (is, lost, kept)) = lose old new had lost
+
+  -- room is made, or refused
+  turn : (old new : Drawing D) (answer : Result ℕ ProjectError) → HasCalls facts first old → old.group ≡ None → IsCheckpointed facts old answer new → HasCalls facts first new
+  turn old new answer had none turned = one_more old new (Checkpoint answer) had turned.made (ap (λ (d : Drawing D). d.group) turned.others ∙ none)
+
+  turns : (old new : Drawing D) (lines : List (List ℕ)) (refusal : Option ℕ) → HasCalls facts first old → old.group ≡ None → TurnsFor facts old lines refusal new
+      → HasCalls facts first new
+  turns old new lines None had none (inl (room, same)) = subst (λ (d : Drawing D). HasCalls facts first d) (sym same) had
+  turns old new lines None had none (inr (lacks, (n, turned))) = turn old new (Ok n) had none turned
+  turns old new lines (Some code) had none (lacks, (e, is, turned)) = turn old new (Err e) had none turned
+
+  room : (old new : Drawing D) (lines : List (List ℕ)) (refusal : Option ℕ) → HasCalls facts first old → MakesRoom facts old lines refusal new → HasCalls facts first new
+  room old new lines None had (inl (why, same)) = subst (λ (d : Drawing D). HasCalls facts first d) (sym same) had
+  room old new lines None had (inr (mid, put, turned)) = turns mid new lines None (settle old mid had put.settled) put.settled.none turned
+  room old new lines (Some code) had (inl (is, lacks, gone)) = lose old new had gone
+  room old new lines (Some code) had (inr (mid, put, turned)) = turns mid new lines (Some code) (settle old mid had put.settled) put.settled.none turned
 
   pub calls_kept : AreKept (project_canvas facts) (HasCalls facts first)
   calls_kept = record {
     change = change;
     tell = tell;
     begin = begin;
+    room = room;
     settle = settle;
     lose = lose;
   }

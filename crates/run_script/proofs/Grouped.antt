@@ -12,11 +12,11 @@ use Rattle.map_blocks.specs.Stops.{IsStop, IsStopWithin}
 use Rattle.map_blocks.specs.declared.stop.OpenBlock.{OpenBlock}
 use Rattle.map_blocks.specs.declared.stop.Stop.{Stop}
 use Rattle.run_canvas.specs.declared.canvas.Canvas.{Ghosts}
-use Rattle.run_script.proofs.Losing.{Alone, LossTold, Lost, LostIn, Since, StepOf, ToldAll, Within, advance_in, advance_lost}
+use Rattle.run_script.proofs.Losing.{Alone, LossTold, Lost, LostIn, RoomMade, RoomRefused, Since, StepOf, ToldAll, Within, advance_in, advance_lost}
 use Rattle.run_script.proofs.ToldBlocks.{alone_within}
 
 abbrev pub Begun : {S : Type 0} → Ghosts S → Type 0
-Begun {S = S} facts = (old new : S) (alone : Bool) → facts.begins old alone new
+Begun {S = S} facts = (old new : S) (place : ℕ) (alone : Bool) → facts.begins old place alone new
     → (facts.has_lost new ≡ false) × (facts.is_alone new ≡ false → alone ≡ false)
     × ((last : S) → facts.loses new last → (facts.holds_earlier new ≡ true) × ((other : S) × facts.loses old other × facts.settles other last))
 
@@ -53,7 +53,7 @@ IsLostFrom {S = S} facts verbose shapes start limit many place written canvas =
     (last : S) → facts.loses canvas last → (place < many) × (verbose ≡ false)
     × ((w : Option (List ℕ)) → Keeps written w → StopsAlone facts verbose shapes start limit place last w)
 
-module _ {S : Type 0} (facts : Ghosts S) (since : Since facts) (within : Within facts) (alone : Alone facts) (told_all : ToldAll facts) (loss_told : LossTold facts)
+module _ {S : Type 0} (facts : Ghosts S) (since : Since facts) (within : Within facts) (alone : Alone facts) (made : RoomMade facts) (refused : RoomRefused facts) (told_all : ToldAll facts) (loss_told : LossTold facts)
     (begun : Begun facts) (lost_settled : LostSettled facts) (again : SettledAgain facts) where
   stop_then : (verbose : Bool) (shapes : List Shape) (start : Progress S) (limit place : ℕ) (other last : S) (w : Option (List ℕ))
       → StopsAlone facts verbose shapes start limit place other w → facts.settles other last → StopsAlone facts verbose shapes start limit place last w
@@ -70,56 +70,56 @@ module _ {S : Type 0} (facts : Ghosts S) (since : Since facts) (within : Within 
         has = old.has;
       }
 
-  before_lost : (verbose : Bool) (shapes : List Shape) (start : Progress S) (limit many place : ℕ) (old began last : S) (u w : Option (List ℕ)) → facts.begins old verbose began
+  before_lost : (verbose : Bool) (shapes : List Shape) (start : Progress S) (limit many place at : ℕ) (old began last : S) (u w : Option (List ℕ)) → facts.begins old at verbose began
       → IsLostFrom facts verbose shapes start limit many place u old → facts.loses began last → (verbose ≡ false → Keeps u w)
       → (facts.holds_earlier began ≡ true) × (place < many) × (verbose ≡ false)
       × ((x : Option (List ℕ)) → Keeps w x → StopsAlone facts verbose shapes start limit place last x)
-  before_lost verbose shapes start limit many place old began last u w begins known lost kept =
-      let (still, (other, gone, settled)) = (begun old began verbose begins).2 last lost in
+  before_lost verbose shapes start limit many place at old began last u w begins known lost kept =
+      let (still, (other, gone, settled)) = (begun old began at verbose begins).2 last lost in
       let (below, quiet, stops) = known other gone in
       (still, below, quiet, λ x keeps. stop_then verbose shapes start limit place other last x (stops x (Keeps-trans u w x (kept quiet) keeps)) settled)
 
   pub next_lost : (verbose : Bool) (shapes : List Shape) (start : Progress S) (limit many n before place : ℕ) (mid new : Progress S) (began : S) (refusal : Option ℕ) → ComesTo facts verbose shapes start n mid
-      → n < limit → place < many → IsAtPlace mid.lines mid.turns place → facts.begins mid.sketch.canvas verbose began
+      → n < limit → place < many → IsAtPlace mid.lines mid.turns place → facts.begins mid.sketch.canvas place verbose began
       → Advances facts verbose shapes (on_canvas began mid) refusal new → IsLostFrom facts verbose shapes start limit many before mid.sketch.written mid.sketch.canvas
       → IsLostFrom facts verbose shapes start limit many (if facts.holds_earlier new.sketch.canvas then before else place) new.sketch.written new.sketch.canvas
   next_lost verbose shapes start limit many n before place mid new began refusal reached under inside at begins drawn known last lost =
-      let (kept, lines) = advance_lost facts since within alone told_all loss_told verbose shapes (on_canvas began mid) new refusal last drawn lost in go kept lines
+      let (kept, lines) = advance_lost facts since within alone made refused told_all loss_told verbose shapes (on_canvas began mid) new refusal last drawn lost in go kept lines
     where
       StopsAt : ℕ → Type 0
       StopsAt p = (p < many) × (verbose ≡ false) × ((w : Option (List ℕ)) → Keeps new.sketch.written w → StopsAlone facts verbose shapes start limit p last w)
 
-      stopped : (w : Option (List ℕ)) → StepOf facts since within alone told_all loss_told verbose shapes mid.lines (on_canvas began mid) last w
+      stopped : (w : Option (List ℕ)) → StepOf facts since within alone made refused told_all loss_told verbose shapes mid.lines (on_canvas began mid) last w
           → StopsAlone facts verbose shapes start limit place last w
       stopped w (x, drawn, canvas, written) stop is =
-          stopped_there facts verbose shapes start limit n place 30 mid x [] stop last w reached at (inl (under, (began, begins, drawn))) is refl
+          stopped_there facts verbose shapes start limit n place 30 mid x [] stop last w reached at (inl (under, (place, at, began, begins, drawn))) is refl
           (subst (λ (s : S). facts.settles s last) (sym canvas) (lost_settled new.sketch.canvas last lost)) (sym written)
 
       go : (verbose ≡ false → Keeps mid.sketch.written new.sketch.written)
-          → Lost facts since within alone told_all loss_told began new.sketch.canvas last
-          ((w : Option (List ℕ)) → Keeps mid.sketch.written w → StepOf facts since within alone told_all loss_told verbose shapes mid.lines (on_canvas began mid) last w)
+          → Lost facts since within alone made refused told_all loss_told began new.sketch.canvas last
+          ((w : Option (List ℕ)) → Keeps mid.sketch.written w → StepOf facts since within alone made refused told_all loss_told verbose shapes mid.lines (on_canvas began mid) last w)
           → StopsAt (if facts.holds_earlier new.sketch.canvas then before else place)
       go kept (inl (same, gone)) =
-          let (still, below, quiet, stops) = before_lost verbose shapes start limit many before mid.sketch.canvas began last mid.sketch.written new.sketch.written begins known gone kept in
+          let (still, below, quiet, stops) = before_lost verbose shapes start limit many before place mid.sketch.canvas began last mid.sketch.written new.sketch.written begins known gone kept in
           subst (λ (b : Bool). StopsAt (if b then before else place)) (sym (same ∙ still)) (below, quiet, stops)
       go kept (inr (none, together, make)) =
-          let quiet : verbose ≡ false = (begun mid.sketch.canvas began verbose begins).1 together in
+          let quiet : verbose ≡ false = (begun mid.sketch.canvas began place verbose begins).1 together in
           subst (λ (b : Bool). StopsAt (if b then before else place)) (sym none)
           (inside, quiet, λ w keeps. stopped w (make w (Keeps-trans mid.sketch.written new.sketch.written w (kept quiet) keeps)))
 
   -- a line that lost what earlier ones had
-  pub line_lost : (verbose : Bool) (shapes : List Shape) (start : Progress S) (limit many before : ℕ) (mid new : Progress S) (began : S) (code : ℕ) → facts.begins mid.sketch.canvas verbose began
+  pub line_lost : (verbose : Bool) (shapes : List Shape) (start : Progress S) (limit many before place : ℕ) (mid new : Progress S) (began : S) (code : ℕ) → facts.begins mid.sketch.canvas place verbose began
       → Advances facts verbose shapes (on_canvas began mid) (Some code) new → facts.has_lost new.sketch.canvas ≡ true
       → IsLostFrom facts verbose shapes start limit many before mid.sketch.written mid.sketch.canvas
       → (before < many) × StopsAlone facts verbose shapes start limit before new.sketch.canvas new.sketch.written
-  line_lost verbose shapes start limit many before mid new began code begins drawn lost known =
-      go (advance_in facts since within alone told_all loss_told verbose shapes (on_canvas began mid) new code drawn lost)
+  line_lost verbose shapes start limit many before place mid new began code begins drawn lost known =
+      go (advance_in facts since within alone made refused told_all loss_told verbose shapes (on_canvas began mid) new code drawn lost)
     where
-      go : LostIn facts since within alone told_all loss_told code began new.sketch.canvas (Keeps mid.sketch.written new.sketch.written)
+      go : LostIn facts since within alone made refused told_all loss_told code began new.sketch.canvas (Keeps mid.sketch.written new.sketch.written)
           → (before < many) × StopsAlone facts verbose shapes start limit before new.sketch.canvas new.sketch.written
-      go (inl already) = absurd (true≢false (sym already ∙ (begun mid.sketch.canvas began verbose begins).0))
+      go (inl already) = absurd (true≢false (sym already ∙ (begun mid.sketch.canvas began place verbose begins).0))
       go (inr (thirty, waits, gone, kept)) =
-          let (still, (other, lost, settled)) = (begun mid.sketch.canvas began verbose begins).2 new.sketch.canvas gone in
+          let (still, (other, lost, settled)) = (begun mid.sketch.canvas began place verbose begins).2 new.sketch.canvas gone in
           let (below, quiet, stops) = known other lost in
           (below, stop_then verbose shapes start limit before other new.sketch.canvas new.sketch.written (stops new.sketch.written kept) settled)
 
@@ -163,11 +163,11 @@ finished_within facts verbose shapes start limit many first written old new ende
     alone_within many first 30 stop is below
 
 -- lines were drawn, and perhaps one more, when a call was cut off
-pub cut_off_at : {S : Type 0} (facts : Ghosts S) (verbose : Bool) (shapes : List Shape) (first mid : Progress S) (began canvas new : S) (n : ℕ) → ComesTo facts verbose shapes first n mid
-    → facts.begins mid.sketch.canvas verbose began
+pub cut_off_at : {S : Type 0} (facts : Ghosts S) (verbose : Bool) (shapes : List Shape) (first mid : Progress S) (began canvas new : S) (n place : ℕ) → ComesTo facts verbose shapes first n mid
+    → IsAtPlace mid.lines mid.turns place → facts.begins mid.sketch.canvas place verbose began
     → facts.settles began canvas ⊎ ((last : Progress S) × Advances facts verbose shapes (on_canvas began mid) None last × (canvas ≡ last.sketch.canvas))
     → facts.settles canvas new ⊎ facts.loses canvas new → IsCutOff facts verbose shapes first new
-cut_off_at facts verbose shapes first mid began canvas new n reached begins (inl settled) leaves =
-    record { count = n; last = mid; reached = reached; left = canvas; settled = inr (began, begins, settled); leaves = leaves }
-cut_off_at facts verbose shapes first mid began canvas new n reached begins (inr (last, drawn, at)) leaves =
-    record { count = suc n; last = last; reached = (mid, reached, (began, begins, drawn)); left = canvas; settled = inl at; leaves = leaves }
+cut_off_at facts verbose shapes first mid began canvas new n place reached at begins (inl settled) leaves =
+    record { count = n; last = mid; reached = reached; left = canvas; settled = inr (place, at, began, begins, settled); leaves = leaves }
+cut_off_at facts verbose shapes first mid began canvas new n place reached at begins (inr (last, drawn, is)) leaves =
+    record { count = suc n; last = last; reached = (mid, reached, (place, at, began, begins, drawn)); left = canvas; settled = inl is; leaves = leaves }

@@ -1,7 +1,6 @@
 -- What holds of a canvas through a script, if each of its calls keeps it.
 use Rattle.std.proofs.Common.{◌≡◌, ◌⊎◌, inl, inr, ℕ, Bool, true, false, List, [], ◌∷◌, Option, Some, None, Result, Ok, Err, sym, ap, subst}
 use Rattle.std.specs.Prelude.{MatchOption, MatchResult, zero, suc}
-use Rattle.map_commands.specs.declared.command.Command.{Command}
 use Rattle.map_script.specs.Errors.{code_of}
 use Rattle.map_script.specs.Lines.{let_words, line_for}
 use Rattle.map_script.specs.Words.{text_words}
@@ -10,11 +9,11 @@ use Rattle.map_shapes.specs.Shapes.{is_shape_line}
 use Rattle.map_tables.specs.Projects.{current_map}
 use Rattle.map_blocks.specs.Blocks.{order_fault, with_places}
 use Rattle.map_blocks.specs.Defined.{Shape, shapes_in}
-use Rattle.run_script.specs.Drawn.{AdvancesOver, ComesTo, DrawsNext, EndsFrom, IsScriptDrawn, Progress, Refuses, Steps, at_first, at_position, line_limit, on_canvas, opened_by}
+use Rattle.run_script.specs.Drawn.{AdvancesOver, ComesTo, DrawsNext, EndsFrom, IsAtPlace, IsScriptDrawn, Progress, Refuses, Steps, at_first, at_position, line_limit, on_canvas, opened_by}
 use Rattle.run_script.specs.Lines.{DrawsLet, DrawsOther, DrawsText, IsQueryTold, IsTried, Sketch, Stays, asks}
 use Rattle.run_canvas.specs.Canvases.{OneOf}
 use Rattle.run_script.specs.Orders.{IsOutOfOrder}
-use Rattle.run_script.specs.Shaped.{DoesAll, DrawsShape, command_line}
+use Rattle.run_script.specs.Shaped.{DoesAll, DrawsShape, command_lines}
 use Rattle.run_script.specs.Turns.{OpensBlock, Position}
 use Rattle.run_canvas.specs.declared.canvas.Canvas.{Ghosts}
 use Rattle.map_blocks.specs.declared.stop.Stop.{Stop}
@@ -24,7 +23,8 @@ use Rattle.run_canvas.specs.declared.error.ScriptError.{ScriptError}
 pub record AreKept {S : Type 0} (facts : Ghosts S) (P : S → Type 0) : Type 0 where
   pub change : (old new : S) (line : List ℕ) (outcome : Result ℕ ℕ) → P old → facts.changes old line outcome new → P new
   pub tell : (old new : S) (line : List ℕ) (refusal : Option ℕ) (u w : Option (List ℕ)) → P old → facts.tells old line refusal new u w → P new
-  pub begin : (old new : S) (alone : Bool) → P old → facts.begins old alone new → P new
+  pub begin : (old new : S) (place : ℕ) (alone : Bool) → P old → facts.begins old place alone new → P new
+  pub room : (old new : S) (lines : List (List ℕ)) (refusal : Option ℕ) → P old → facts.makes_room old lines refusal new → P new
   pub settle : (old new : S) → P old → facts.settles old new → P new
   pub lose : (old new : S) → P old → facts.loses old new → P new
 
@@ -32,19 +32,17 @@ module _ {S : Type 0} (facts : Ghosts S) (P : S → Type 0) (keep : AreKept fact
   same_keeps : (old new : S) → P old → new ≡ old → P new
   same_keeps old new kept is = subst P (sym is) kept
 
-  all_keeps : (cs : List Command) (old new : S) → P old → DoesAll facts cs old new → P new
+  all_keeps : (ls : List (List ℕ)) (old new : S) → P old → DoesAll facts ls old new → P new
   all_keeps [] old new kept same = same_keeps old new kept same
-  all_keeps (c ∷ cs) old new kept (mid, (n, changed), rest) = all_keeps cs mid new (keep.change old mid (command_line c) (Ok n) kept changed) rest
-
-  stop_keeps : (c : Command) (old new : S) (code : ℕ) → P old → facts.changes old (command_line c) (Err code) new ⊎ ((code ≡ 31) × (new ≡ old)) → P new
-  stop_keeps c old new code kept (inl changed) = keep.change old new (command_line c) (Err code) kept changed
-  stop_keeps c old new code kept (inr (out, same)) = same_keeps old new kept same
+  all_keeps (l ∷ ls) old new kept (mid, (n, changed), rest) = all_keeps ls mid new (keep.change old mid l (Ok n) kept changed) rest
 
   shape_keeps : (text : List ℕ) (old new : S) (outcome : Result ℕ ℕ) → P old → DrawsShape facts text old outcome new → P new
-  shape_keeps text old new (Ok n) kept (commands, planned, done) = all_keeps commands old new kept done
+  shape_keeps text old new (Ok n) kept (commands, planned, mid, room, done) =
+      all_keeps (command_lines commands) mid new (keep.room old mid (command_lines commands) None kept room) done
   shape_keeps text old new (Err code) kept (inl (whole, same)) = same_keeps old new kept same
-  shape_keeps text old new (Err code) kept (inr (commands, answer, planned, (mid, front, c, back, is, does, stop))) =
-      stop_keeps c mid new code (all_keeps front old mid kept does) stop
+  shape_keeps text old new (Err code) kept (inr (commands, answer, planned, inl refused)) = keep.room old new (command_lines commands) (Some code) kept refused
+  shape_keeps text old new (Err code) kept (inr (commands, answer, planned, inr (start, room, (mid, front, l, back, is, does, stop)))) =
+      keep.change mid new l (Err code) (all_keeps front start mid (keep.room old start (command_lines commands) None kept room) does) stop
 
   does_keeps : (b : Bool) (text : List ℕ) (old new : S) (outcome : Result ℕ ℕ) → P old
       → OneOf b (DrawsShape facts text old outcome new) (facts.changes old text outcome new) → P new
@@ -86,8 +84,8 @@ module _ {S : Type 0} (facts : Ghosts S) (P : S → Type 0) (keep : AreKept fact
   over_keeps verbose shapes (l ∷ ls) old new refusal kept drawn = next_keeps verbose shapes l ls old new refusal (opened_by facts shapes l ls old) kept drawn
 
   step_keeps : (verbose : Bool) (shapes : List Shape) (old new : Progress S) (refusal : Option ℕ) → P old.sketch.canvas → Steps facts verbose shapes old refusal new → P new.sketch.canvas
-  step_keeps verbose shapes old new refusal kept (canvas, begins, drawn) =
-      over_keeps verbose shapes old.lines (on_canvas canvas old) new refusal (keep.begin old.sketch.canvas canvas verbose kept begins) drawn
+  step_keeps verbose shapes old new refusal kept (place, at, canvas, begins, drawn) =
+      over_keeps verbose shapes old.lines (on_canvas canvas old) new refusal (keep.begin old.sketch.canvas canvas place verbose kept begins) drawn
 
   comes_keeps : (verbose : Bool) (shapes : List Shape) (first : Progress S) (n : ℕ) (new : Progress S) → P first.sketch.canvas → ComesTo facts verbose shapes first n new → P new.sketch.canvas
   comes_keeps verbose shapes first zero new kept same = same_keeps first.sketch.canvas new.sketch.canvas kept (ap (λ (p : Progress S). p.sketch.canvas) same)
@@ -99,9 +97,11 @@ module _ {S : Type 0} (facts : Ghosts S) (P : S → Type 0) (keep : AreKept fact
   refused_keeps verbose shapes limit n old code new kept (inl (under, steps)) = step_keeps verbose shapes old new (Some code) kept steps
   refused_keeps verbose shapes limit n old code new kept (inr (at, is, same)) = same_keeps old.sketch.canvas new.sketch.canvas kept (ap (λ (p : Progress S). p.sketch.canvas) same)
 
-  left_keeps : (verbose : Bool) (old left : S) → P old → (left ≡ old) ⊎ ((begun : S) × facts.begins old verbose begun × facts.settles begun left) → P left
-  left_keeps verbose old left kept (inl same) = same_keeps old left kept same
-  left_keeps verbose old left kept (inr (begun, begins, settled)) = keep.settle begun left (keep.begin old begun verbose kept begins) settled
+  left_keeps : (verbose : Bool) (last : Progress S) (left : S) → P last.sketch.canvas
+      → (left ≡ last.sketch.canvas) ⊎ ((place : ℕ) × IsAtPlace last.lines last.turns place × (begun : S) × facts.begins last.sketch.canvas place verbose begun × facts.settles begun left) → P left
+  left_keeps verbose last left kept (inl same) = same_keeps last.sketch.canvas left kept same
+  left_keeps verbose last left kept (inr (place, at, begun, begins, settled)) =
+      keep.settle begun left (keep.begin last.sketch.canvas begun place verbose kept begins) settled
 
   leaves_keeps : (left canvas : S) → P left → facts.settles left canvas ⊎ facts.loses left canvas → P canvas
   leaves_keeps left canvas kept (inl settled) = keep.settle left canvas kept settled
@@ -116,7 +116,7 @@ module _ {S : Type 0} (facts : Ghosts S) (P : S → Type 0) (keep : AreKept fact
       (refused_keeps verbose shapes limit ends.count ends.before stop.code ends.after (comes_keeps verbose shapes first ends.count ends.before kept ends.reached) ends.refused) ends.put
   ends_keeps verbose shapes first limit (Err e) canvas w kept (cause, ends) =
       leaves_keeps ends.left canvas
-      (left_keeps verbose ends.last.sketch.canvas ends.left (comes_keeps verbose shapes first ends.count ends.last kept ends.reached) ends.settled) ends.leaves
+      (left_keeps verbose ends.last ends.left (comes_keeps verbose shapes first ends.count ends.last kept ends.reached) ends.settled) ends.leaves
 
   script_keeps : (verbose : Bool) (lines : List (ℕ × List ℕ)) (o : Option ℕ) (result : Result (Option Stop) ScriptError) (old : S) (u : Option (List ℕ)) (new : S) (w : Option (List ℕ)) → P old
       → MatchOption o (EndsFrom facts verbose (shapes_in (with_places lines)) (at_first old u lines) (line_limit lines) result new w) (λ place. IsOutOfOrder place result old u new w)

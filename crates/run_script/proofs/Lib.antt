@@ -7,5 +7,7 @@ pub mod LineEnds
 pub mod Losing
 pub mod Positions
 pub mod Progressing
+pub mod SameMaps
 pub mod ShapeSteps
 pub mod ToldBlocks
+pub mod Wholeness

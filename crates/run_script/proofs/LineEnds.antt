@@ -5,12 +5,13 @@ use Rattle.std.specs.Io.KnownBytes.{Appends, append_known}
 use Rattle.map_script.specs.Errors.{code_of}
 use Rattle.map_tables.specs.Projects.{current_map}
 use Rattle.map_script.specs.Lines.{TellsScriptFault, let_words, line_for, name_in, names_after}
+use Rattle.map_script.specs.Referents.{referent_of}
 use Rattle.map_script.specs.Scopes.{Scope}
 use Rattle.map_script.specs.Words.{text_words}
 use Rattle.map_script.specs.declared.firsts.Firsts.{Firsts}
 use Rattle.map_script.specs.declared.firsts.Numbers.{Numbers}
 use Rattle.map_script.specs.declared.error.DrawError.{DrawError}
-use Rattle.map_script.specs.declared.error.DrawError.TheVariants.{NotALet, NotALoop, NotAnAt, NotADefine, NotItsWords, OutsideMap, NotAQuarter, NotAName, NotAReference, UnknownName, NothingAdded, NumberTooLarge, NothingThere, NotANumber, NotWhole, TooGreat, TooDeep, OpenBlock, TooManyLines, OutOfMemory}
+use Rattle.map_script.specs.declared.error.DrawError.TheVariants.{NotALet, NotALoop, NotAnAt, NotADefine, NotItsWords, OutsideMap, NotAQuarter, NotAName, NotAReference, OtherKind, UnknownName, NothingAdded, NumberTooLarge, NothingThere, NotANumber, NotWhole, TooGreat, TooDeep, OpenBlock, TooManyLines, OutOfMemory}
 use Rattle.run_script.specs.Lines.{Added, Does, DrawsLet, DrawsLine, DrawsOther, DrawsText, IsTried, Sketch, Stays, asks, sketch_of}
 use Rattle.run_script.specs.Given.{GivesWords, noted_text, with_given_name}
 use Rattle.run_canvas.specs.declared.canvas.Canvas.{Ghosts}
@@ -31,6 +32,7 @@ pub refused_line : {S : Type 0} (facts : Ghosts S) (verbose : Bool) (line : ℕ 
     → TellsScriptFault e (line_for old.names (current_map (facts.maps_in old.canvas)) line.1) → Stays old new → DrawsOther facts verbose line old (Some (code_of e)) new
 refused_line facts verbose line old new NotAName is stays = faulty facts verbose line old new NotAName is stays
 refused_line facts verbose line old new NotAReference is stays = faulty facts verbose line old new NotAReference is stays
+refused_line facts verbose line old new OtherKind is stays = faulty facts verbose line old new OtherKind is stays
 refused_line facts verbose line old new UnknownName is stays = faulty facts verbose line old new UnknownName is stays
 refused_line facts verbose line old new NothingAdded is stays = faulty facts verbose line old new NothingAdded is stays
 refused_line facts verbose line old new NumberTooLarge is stays = faulty facts verbose line old new NumberTooLarge is stays
@@ -67,7 +69,7 @@ pub tried_unsaid : {S : Type 0} (facts : Ghosts S) (verbose : Bool) (line : ℕ 
 tried_unsaid {S} facts verbose line text old canvas n firsts done adds =
     let said : List ℕ = noted_text verbose line.0 n in
     let numbers : Numbers = record { answer = n; firsts = firsts } in
-    let new : Sketch S = sketch_of canvas (with_given_name (name_in (text_words line.1)) numbers old.names) (append_known old.written said) in (
+    let new : Sketch S = sketch_of canvas (with_given_name (name_in (text_words line.1)) numbers (referent_of (text_words text)) old.names) (append_known old.written said) in (
       new,
       (Ok n, done, (refl, Appends-known old.written said, (firsts, adds, refl))),
       refl,
@@ -104,6 +106,7 @@ pub refused_words : {S : Type 0} (facts : Ghosts S) (words : List (List ℕ)) (c
 refused_words facts words canvas old new NotALet is same = not-given facts words canvas old new NotALet is same
 refused_words facts words canvas old new NotAName is same = not-given facts words canvas old new NotAName is same
 refused_words facts words canvas old new NotAReference is same = not-given facts words canvas old new NotAReference is same
+refused_words facts words canvas old new OtherKind is same = not-given facts words canvas old new OtherKind is same
 refused_words facts words canvas old new UnknownName is same = not-given facts words canvas old new UnknownName is same
 refused_words facts words canvas old new NothingAdded is same = not-given facts words canvas old new NothingAdded is same
 refused_words facts words canvas old new NumberTooLarge is same = not-given facts words canvas old new NumberTooLarge is same

@@ -16,7 +16,7 @@ use Rattle.run_script.specs.Drawn.{Advances, AdvancesOver, DrawsNext, Progress, 
 use Rattle.run_script.specs.Given.{GivesWords}
 use Rattle.run_script.specs.Lines.{Does, DrawsLet, DrawsLine, DrawsOther, DrawsText, IsQueryTold, IsTried, Sketch, Stays, asks, sketch_of}
 use Rattle.run_canvas.specs.Canvases.{OneOf}
-use Rattle.run_script.specs.Shaped.{DoesAll, DrawsShape, StopsAmong, command_line}
+use Rattle.run_script.specs.Shaped.{DoesAll, DrawsShape, IsPlanned, StopsAmong, command_lines}
 use Rattle.run_script.specs.Turns.{EndsTurn, OpensBlock, Position}
 use Rattle.run_canvas.specs.declared.canvas.Canvas.{Ghosts}
 
@@ -45,6 +45,16 @@ abbrev pub Alone : {S : Type 0} → Ghosts S → Type 0
 Alone {S = S} facts = (old new : S) (line : List ℕ) (number : ℕ) → facts.changes old line (Ok number) new
     → (facts.is_alone new ≡ facts.is_alone old) × (facts.has_lost new ≡ facts.has_lost old)
 
+abbrev pub RoomMade : {S : Type 0} → Ghosts S → Type 0
+RoomMade {S = S} facts = (old new : S) (lines : List (List ℕ)) → facts.makes_room old lines None new
+    → (facts.is_alone new ≡ facts.is_alone old) × (facts.has_lost new ≡ facts.has_lost old)
+    × ((last : S) → facts.loses new last → (facts.holds_earlier new ≡ facts.holds_earlier old) × facts.loses old last)
+
+abbrev pub RoomRefused : {S : Type 0} → Ghosts S → Type 0
+RoomRefused {S = S} facts = (old new : S) (lines : List (List ℕ)) (code : ℕ) → facts.makes_room old lines (Some code) new
+    → ((last : S) → ¬ facts.loses new last)
+    × (facts.has_lost new ≡ true → (facts.has_lost old ≡ true) ⊎ ((code ≡ 30) × (facts.holds_earlier old ≡ true) × facts.loses old new))
+
 abbrev pub ToldAll : {S : Type 0} → Ghosts S → Type 0
 ToldAll {S = S} facts = (old new last : S) (line : List ℕ) (refusal : Option ℕ) (u w : Option (List ℕ)) → facts.tells old line refusal new u w → ¬ facts.loses new last
 
@@ -52,7 +62,7 @@ abbrev pub LossTold : {S : Type 0} → Ghosts S → Type 0
 LossTold {S = S} facts = (old new : S) (line : List ℕ) (code : ℕ) (u w : Option (List ℕ)) → facts.tells old line (Some code) new u w → facts.has_lost new ≡ true
     → (facts.has_lost old ≡ true) ⊎ ((code ≡ 30) × (facts.holds_earlier old ≡ true) × facts.loses old new × Keeps u w)
 
-module _ {S : Type 0} (facts : Ghosts S) (since : Since facts) (within : Within facts) (alone : Alone facts) (told_all : ToldAll facts) (loss_told : LossTold facts) where
+module _ {S : Type 0} (facts : Ghosts S) (since : Since facts) (within : Within facts) (alone : Alone facts) (made : RoomMade facts) (refused : RoomRefused facts) (told_all : ToldAll facts) (loss_told : LossTold facts) where
   -- what waits after these was lost: what waited before, or else a part of these first
   abbrev pub Lost : S → S → S → Type 0 → Type 0
   Lost old new last P = ((facts.holds_earlier new ≡ facts.holds_earlier old) × facts.loses old last)
@@ -69,81 +79,85 @@ module _ {S : Type 0} (facts : Ghosts S) (since : Since facts) (within : Within 
 
   -- ---- A shape
 
-  flags_all : (cs : List Command) (old new : S) → DoesAll facts cs old new → (facts.is_alone new ≡ facts.is_alone old) × (facts.has_lost new ≡ facts.has_lost old)
+  flags_all : (ls : List (List ℕ)) (old new : S) → DoesAll facts ls old new → (facts.is_alone new ≡ facts.is_alone old) × (facts.has_lost new ≡ facts.has_lost old)
   flags_all [] old new same = (ap (λ (s : S). facts.is_alone s) same, ap (λ (s : S). facts.has_lost s) same)
-  flags_all (c ∷ cs) old new (mid, (n, changed), rest) =
-      let first = alone old mid (command_line c) n changed in
-      let then = flags_all cs mid new rest in
-      (then.0 ∙ first.0, then.1 ∙ first.1)
+  flags_all (l ∷ ls) old new (mid, (n, changed), rest) =
+      let first = alone old mid l n changed in
+      let others = flags_all ls mid new rest in
+      (others.0 ∙ first.0, others.1 ∙ first.1)
 
-  stops_behind : (c : Command) (cs : List Command) (old mid last : S) (n : ℕ) → facts.changes old (command_line c) (Ok n) mid → StopsAmong facts cs mid 30 last
-      → StopsAmong facts (c ∷ cs) old 30 last
-  stops_behind c cs old mid last n changed (m, front, d, back, is, does, stop) =
-      (m, c ∷ front, d, back, ap (λ (xs : List Command). c ∷ xs) is, (mid, (n, changed), does), stop)
+  stops_behind : (l : List ℕ) (ls : List (List ℕ)) (old mid last : S) (n : ℕ) → facts.changes old l (Ok n) mid → StopsAmong facts ls mid 30 last
+      → StopsAmong facts (l ∷ ls) old 30 last
+  stops_behind l ls old mid last n changed (m, front, d, back, is, does, stop) =
+      (m, l ∷ front, d, back, ap (λ (xs : List (List ℕ)). l ∷ xs) is, (mid, (n, changed), does), stop)
 
-  stops_before : (front more all : List Command) (old last : S) → all ≡ front ++ more → StopsAmong facts front old 30 last → StopsAmong facts all old 30 last
+  stops_before : (front more all : List (List ℕ)) (old last : S) → all ≡ front ++ more → StopsAmong facts front old 30 last → StopsAmong facts all old 30 last
   stops_before front more all old last whole (m, fore, d, back, is, does, stop) =
-      (m, fore, d, back ++ more, whole ∙ ap (λ (xs : List Command). xs ++ more) is ∙ append_assoc fore (d ∷ back) more, does, stop)
+      (m, fore, d, back ++ more, whole ∙ ap (λ (xs : List (List ℕ)). xs ++ more) is ∙ append_assoc fore (d ∷ back) more, does, stop)
 
-  all_lost : (cs : List Command) (old new last : S) → DoesAll facts cs old new → facts.loses new last → Lost old new last (StopsAmong facts cs old 30 last)
+  all_lost : (ls : List (List ℕ)) (old new last : S) → DoesAll facts ls old new → facts.loses new last → Lost old new last (StopsAmong facts ls old 30 last)
   all_lost [] old new last same lost = same_lost old new last _ same lost
-  all_lost (c ∷ cs) old new last (mid, (n, changed), rest) lost = go (all_lost cs mid new last rest lost)
+  all_lost (l ∷ ls) old new last (mid, (n, changed), rest) lost = go (all_lost ls mid new last rest lost)
     where
-      next : facts.holds_earlier new ≡ facts.holds_earlier mid → Lost old mid last (facts.changes old (command_line c) (Err 30) last)
-          → Lost old new last (StopsAmong facts (c ∷ cs) old 30 last)
+      next : facts.holds_earlier new ≡ facts.holds_earlier mid → Lost old mid last (facts.changes old l (Err 30) last)
+          → Lost old new last (StopsAmong facts (l ∷ ls) old 30 last)
       next same (inl (before, gone)) = inl (same ∙ before, gone)
-      next same (inr (none, together, change)) = inr (same ∙ none, together, (old, [], c, cs, refl, refl, inl change))
+      next same (inr (none, together, change)) = inr (same ∙ none, together, (old, [], l, ls, refl, refl, change))
 
-      go : Lost mid new last (StopsAmong facts cs mid 30 last) → Lost old new last (StopsAmong facts (c ∷ cs) old 30 last)
-      go (inl (same, gone)) = next same (since old mid last (command_line c) (Ok n) changed gone)
-      go (inr (none, together, stops)) = inr (none, sym (alone old mid (command_line c) n changed).0 ∙ together, stops_behind c cs old mid last n changed stops)
+      go : Lost mid new last (StopsAmong facts ls mid 30 last) → Lost old new last (StopsAmong facts (l ∷ ls) old 30 last)
+      go (inl (same, gone)) = next same (since old mid last l (Ok n) changed gone)
+      go (inr (none, together, stops)) = inr (none, sym (alone old mid l n changed).0 ∙ together, stops_behind l ls old mid last n changed stops)
 
   -- commands that were done before one that was refused
-  front_lost : (cs front back : List Command) (c : Command) (old mid new last : S) (code : ℕ) → cs ≡ front ++ c ∷ back → DoesAll facts front old mid
-      → facts.changes mid (command_line c) (Err code) new ⊎ ((code ≡ 31) × (new ≡ mid)) → facts.loses new last
-      → Lost old new last (StopsAmong facts cs old 30 last)
-  front_lost cs front back c old mid new last code is does stop lost = by_stop stop
+  front_lost : (ls front back : List (List ℕ)) (l : List ℕ) (old mid new last : S) (code : ℕ) → ls ≡ front ++ l ∷ back → DoesAll facts front old mid
+      → facts.changes mid l (Err code) new → facts.loses new last → Lost old new last (StopsAmong facts ls old 30 last)
+  front_lost ls front back l old mid new last code is does change lost = changed (since mid new last l (Err code) change lost)
     where
-      whole : facts.holds_earlier new ≡ facts.holds_earlier mid → Lost old mid last (StopsAmong facts front old 30 last) → Lost old new last (StopsAmong facts cs old 30 last)
+      whole : facts.holds_earlier new ≡ facts.holds_earlier mid → Lost old mid last (StopsAmong facts front old 30 last) → Lost old new last (StopsAmong facts ls old 30 last)
       whole same (inl (before, gone)) = inl (same ∙ before, gone)
-      whole same (inr (none, together, stops)) = inr (same ∙ none, together, stops_before front (c ∷ back) cs old last is stops)
+      whole same (inr (none, together, stops)) = inr (same ∙ none, together, stops_before front (l ∷ back) ls old last is stops)
 
-      changed : Lost mid new last (facts.changes mid (command_line c) (Err 30) last) → Lost old new last (StopsAmong facts cs old 30 last)
+      changed : Lost mid new last (facts.changes mid l (Err 30) last) → Lost old new last (StopsAmong facts ls old 30 last)
       changed (inl (same, gone)) = whole same (all_lost front old mid last does gone)
-      changed (inr (none, together, change)) = inr (none, sym (flags_all front old mid does).0 ∙ together, (mid, front, c, back, is, does, inl change))
+      changed (inr (none, together, change)) = inr (none, sym (flags_all front old mid does).0 ∙ together, (mid, front, l, back, is, does, change))
 
-      by_stop : facts.changes mid (command_line c) (Err code) new ⊎ ((code ≡ 31) × (new ≡ mid)) → Lost old new last (StopsAmong facts cs old 30 last)
-      by_stop (inl change) = changed (since mid new last (command_line c) (Err code) change lost)
-      by_stop (inr (out, same)) = whole (ap (λ (s : S). facts.holds_earlier s) same) (all_lost front old mid last does (subst (λ (s : S). facts.loses s last) same lost))
+  -- the same behind room that was made
+  behind_room : (line : List ℕ) (commands : List Command) (answer : ℕ) (old mid new last : S) → IsPlanned (facts.maps_in old) (facts.cap_in old) line commands answer
+      → facts.makes_room old (command_lines commands) None mid → Lost mid new last (StopsAmong facts (command_lines commands) mid 30 last)
+      → Lost old new last (DrawsShape facts line old (Err 30) last)
+  behind_room line commands answer old mid new last planned room (inl (same, gone)) =
+      let (before, lost) = (made old mid (command_lines commands) room).2 last gone in
+      inl (same ∙ before, lost)
+  behind_room line commands answer old mid new last planned room (inr (none, together, stops)) =
+      inr (none, sym (made old mid (command_lines commands) room).0 ∙ together, inr (commands, answer, planned, inr (mid, room, stops)))
 
   shape_lost : (line : List ℕ) (old new last : S) (outcome : Result ℕ ℕ) → DrawsShape facts line old outcome new → facts.loses new last
       → Lost old new last (DrawsShape facts line old (Err 30) last)
-  shape_lost line old new last (Ok answer) (commands, planned, does) lost = go (all_lost commands old new last does lost)
-    where
-      go : Lost old new last (StopsAmong facts commands old 30 last) → Lost old new last (DrawsShape facts line old (Err 30) last)
-      go (inl before) = inl before
-      go (inr (none, together, stops)) = inr (none, together, inr (commands, answer, planned, stops))
+  shape_lost line old new last (Ok answer) (commands, planned, mid, room, does) lost =
+      behind_room line commands answer old mid new last planned room (all_lost (command_lines commands) mid new last does lost)
   shape_lost line old new last (Err code) (inl (whole, same)) lost = same_lost old new last _ same lost
-  shape_lost line old new last (Err code) (inr (commands, answer, planned, (mid, front, c, back, is, does, stop))) lost =
-      go (front_lost commands front back c old mid new last code is does stop lost)
-    where
-      go : Lost old new last (StopsAmong facts commands old 30 last) → Lost old new last (DrawsShape facts line old (Err 30) last)
-      go (inl before) = inl before
-      go (inr (none, together, stops)) = inr (none, together, inr (commands, answer, planned, stops))
+  shape_lost line old new last (Err code) (inr (commands, answer, planned, inl none)) lost = absurd ((refused old new (command_lines commands) code none).0 last lost)
+  shape_lost line old new last (Err code) (inr (commands, answer, planned, inr (start, room, (mid, front, l, back, is, does, stop)))) lost =
+      behind_room line commands answer old start new last planned room (front_lost (command_lines commands) front back l start mid new last code is does stop lost)
 
   shape_in : (line : List ℕ) (old new : S) (code : ℕ) → DrawsShape facts line old (Err code) new → facts.has_lost new ≡ true → LostIn code old new (Unit {0})
   shape_in line old new code (inl (whole, same)) lost = same_in code old new _ same lost
-  shape_in line old new code (inr (commands, answer, planned, (mid, front, c, back, is, does, inr (out, same)))) lost =
-      inl (sym (flags_all front old mid does).1 ∙ sym (ap (λ (s : S). facts.has_lost s) same) ∙ lost)
-  shape_in line old new code (inr (commands, answer, planned, (mid, front, c, back, is, does, inl change))) lost = go (within mid new (command_line c) code change lost)
+  shape_in line old new code (inr (commands, answer, planned, inl none)) lost = go ((refused old new (command_lines commands) code none).1 lost)
     where
-      then : code ≡ 30 → facts.holds_earlier mid ≡ true → Lost old mid new (StopsAmong facts front old 30 new) → LostIn code old new (Unit {0})
-      then thirty waits (inl (same, gone)) = inr (thirty, sym same ∙ waits, gone, tt)
-      then thirty waits (inr (none, together, stops)) = absurd (true≢false (sym waits ∙ none))
+      go : (facts.has_lost old ≡ true) ⊎ ((code ≡ 30) × (facts.holds_earlier old ≡ true) × facts.loses old new) → LostIn code old new (Unit {0})
+      go (inl before) = inl before
+      go (inr (thirty, waits, gone)) = inr (thirty, waits, gone, tt)
+  shape_in line old new code (inr (commands, answer, planned, inr (start, room, (mid, front, l, back, is, does, change)))) lost = go (within mid new l code change lost)
+    where
+      next : code ≡ 30 → facts.holds_earlier mid ≡ true → Lost start mid new (StopsAmong facts front start 30 new) → LostIn code old new (Unit {0})
+      next thirty waits (inl (same, gone)) =
+          let (before, lost) = (made old start (command_lines commands) room).2 new gone in
+          inr (thirty, sym (same ∙ before) ∙ waits, lost, tt)
+      next thirty waits (inr (none, together, stops)) = absurd (true≢false (sym waits ∙ none))
 
       go : (facts.has_lost mid ≡ true) ⊎ ((code ≡ 30) × (facts.holds_earlier mid ≡ true) × facts.loses mid new) → LostIn code old new (Unit {0})
-      go (inl before) = inl (sym (flags_all front old mid does).1 ∙ before)
-      go (inr (thirty, waits, gone)) = then thirty waits (all_lost front old mid new does gone)
+      go (inl before) = inl (sym (made old start (command_lines commands) room).1 ∙ sym (flags_all front start mid does).1 ∙ before)
+      go (inr (thirty, waits, gone)) = next thirty waits (all_lost front start mid new does gone)
 
   -- ---- A line
 

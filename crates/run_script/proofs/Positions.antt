@@ -10,6 +10,7 @@ use Rattle.map_script.specs.declared.error.DrawError.{DrawError}
 use Rattle.map_script.specs.declared.error.DrawError.TheVariants.{OutOfMemory}
 use Rattle.map_script.specs.declared.looping.Range.{Range}
 use Rattle.map_script.specs.declared.placing.Placing.{Placing}
+use Rattle.map_script.specs.declared.referent.Answer.{Answer}
 use Rattle.map_blocks.specs.Blocks.{behind_block, lines_between, block_len, block_lines}
 use Rattle.run_script.specs.Turns.{Counting, EndsTurn, OpensBlock, Position, Turn, after_at, after_count, after_loop, after_names, after_turn, counted_names, first_count, in_turn, next_count, turn_at, with_naming}
 use Rattle.run_script.specs.Places.{AreBlocksTold, Enters, IsBlockWithin, IsNextBlock, IsWithinLines, counting_of, naming_in, position_of, turn_of, turns_of}
@@ -104,11 +105,11 @@ ended all names mid m bs outer b p split named same =
     )
 
 -- its line's name got its numbers behind the turn
-pub given_from : (s names : Scope) (t m : Tables) (last : Option ℕ) (b : Block) (outcome : Result Scope DrawError) → s ≡ released names b.before → t ≡ m → last ≡ names.answered
+pub given_from : (s names : Scope) (t m : Tables) (last : Option Answer) (b : Block) (outcome : Result Scope DrawError) → s ≡ released names b.before → t ≡ m → last ≡ names.answered
     → with_naming s t last (naming_in b.naming) ≡ outcome → with_naming (released names b.before) m names.answered (naming_in b.naming) ≡ outcome
 given_from s names t m last b outcome is same answer given =
     sym (ap₂ (λ (x : Scope) (y : Tables). with_naming x y last (naming_in b.naming)) is same
-    ∙ ap (λ (a : Option ℕ). with_naming (released names b.before) m a (naming_in b.naming)) answer) ∙ given
+    ∙ ap (λ (a : Option Answer). with_naming (released names b.before) m a (naming_in b.naming)) answer) ∙ given
 
 -- a block whose turn ended is in the next one
 pub turned : (all : List (ℕ × (ℕ × List ℕ))) (names mid named : Scope) (m : Tables) (bs outer : List Block) (b c : Block) (count : Count) (next : Option Counting) (r : Reading)

@@ -1,22 +1,25 @@
 -- The commands of a shape, done in turn.
-use Rattle.std.proofs.Common.{◌≡◌, ℕ, ◌+◌, ◌<◌, List, [], ◌∷◌, ◌++◌, length, take, drop, get_or, refl, sym, ◌∙◌, ap, subst, append_assoc, Ok}
-use Rattle.std.proofs.lemmas.List.{take_more, take-append-drop}
-use Rattle.map_commands.specs.declared.command.Command.{Command}
-use Rattle.run_script.specs.Shaped.{DoesAll, command_line}
+use Rattle.std.proofs.Common.{◌≡◌, ℕ, ◌+◌, ◌<◌, List, [], ◌∷◌, ◌++◌, length, take, drop, get_or, map, refl, sym, ◌∙◌, ap, subst, Ok}
+use Rattle.std.proofs.lemmas.List.{at_drop_more, map-append, take_more, take-append-drop}
+use Rattle.run_script.specs.Shaped.{DoesAll}
 use Rattle.run_canvas.specs.declared.canvas.Canvas.{Ghosts}
 
-DoesAll-more : {S : Type 0} (facts : Ghosts S) (cs : List Command) (c : Command) (old mid new : S) (n : ℕ)
-    → DoesAll facts cs old mid → facts.changes mid (command_line c) (Ok n) new → DoesAll facts (cs ++ c ∷ []) old new
-DoesAll-more {S} facts [] c old mid new n same done = (new, (n, subst (λ (s : S). facts.changes s (command_line c) (Ok n) new) same done), refl)
-DoesAll-more facts (d ∷ cs) c old mid new n (next, first, rest) done = (next, first, DoesAll-more facts cs c next mid new n rest done)
+DoesAll-more : {S : Type 0} (facts : Ghosts S) (lines : List (List ℕ)) (line : List ℕ) (old mid new : S) (n : ℕ)
+    → DoesAll facts lines old mid → facts.changes mid line (Ok n) new → DoesAll facts (lines ++ line ∷ []) old new
+DoesAll-more {S} facts [] line old mid new n same done = (new, (n, subst (λ (s : S). facts.changes s line (Ok n) new) same done), refl)
+DoesAll-more facts (first ∷ lines) line old mid new n (next, done, rest) last = (next, done, DoesAll-more facts lines line next mid new n rest last)
 
--- one command more was done
-pub does_more : {S : Type 0} (facts : Ghosts S) (cs : List Command) (i : ℕ) (d : Command) (old mid new : S) (n : ℕ) → i < length cs
-    → DoesAll facts (take i cs) old mid → facts.changes mid (command_line (get_or cs i d)) (Ok n) new → DoesAll facts (take (i + 1) cs) old new
-does_more facts cs i d old mid new n below all done = rw (take_more cs i d below) (DoesAll-more facts (take i cs) (get_or cs i d) old mid new n all done)
+module _ {V : Type 0} (text : V → List ℕ) where
+  -- one command more was done
+  pub does_more : {S : Type 0} (facts : Ghosts S) (vs : List V) (i : ℕ) (d : V) (old mid new : S) (n : ℕ) → i < length vs
+      → DoesAll facts (map text (take i vs)) old mid → facts.changes mid (text (get_or vs i d)) (Ok n) new → DoesAll facts (map text (take (i + 1) vs)) old new
+  does_more facts vs i d old mid new n below all done =
+      subst (λ (lines : List (List ℕ)). DoesAll facts lines old new)
+      (sym (ap (λ (xs : List V). map text xs) (take_more vs i d below) ∙ map-append text (take i vs) (get_or vs i d ∷ [])))
+      (DoesAll-more facts (map text (take i vs)) (text (get_or vs i d)) old mid new n all done)
 
--- a list is what stands in front of an item, the item, and what stands behind it
-pub parted_at : (cs : List Command) (i : ℕ) (d : Command) → i < length cs → cs ≡ take i cs ++ get_or cs i d ∷ drop (i + 1) cs
-parted_at cs i d below =
-    sym (take-append-drop (i + 1) cs) ∙ ap (λ (ys : List Command). ys ++ drop (i + 1) cs) (take_more cs i d below)
-    ∙ append_assoc (take i cs) (get_or cs i d ∷ []) (drop (i + 1) cs)
+  -- a list is what stands in front of an item, the item, and what stands behind it
+  pub parted_at : (vs : List V) (i : ℕ) (d : V) → i < length vs → map text vs ≡ map text (take i vs) ++ text (get_or vs i d) ∷ map text (drop (i + 1) vs)
+  parted_at vs i d below =
+      ap (λ (xs : List V). map text xs) (sym (take-append-drop i vs)) ∙ map-append text (take i vs) (drop i vs)
+      ∙ ap (λ (ys : List (List ℕ)). map text (take i vs) ++ ys) (at_drop_more (λ (xs : List V). map text xs) vs i d below)

@@ -6,7 +6,7 @@ use Rattle.map_blocks.specs.Defined.{Shape, shapes_in}
 use Rattle.run_script.specs.Lines.{sketch_of}
 use Rattle.run_script.specs.Opened.{Turn, open_blocks}
 use Rattle.run_script.specs.Orders.{IsOutOfOrder}
-pub use Rattle.run_script.specs.Progress.{Advances, AdvancesOver, DrawsNext, Progress, Steps, at_position, on_canvas, opened_by}
+pub use Rattle.run_script.specs.Progress.{Advances, AdvancesOver, DrawsNext, IsAtPlace, Progress, Steps, at_position, on_canvas, opened_by}
 use Rattle.run_canvas.specs.declared.canvas.Canvas.{Ghosts}
 use Rattle.map_blocks.specs.declared.stop.Stop.{Stop}
 use Rattle.run_canvas.specs.declared.error.ScriptError.{ScriptError}
@@ -25,12 +25,6 @@ ComesTo {S = S} facts verbose shapes first (suc n) new =
 -- no line is to come, and no block is open
 abbrev pub IsOver : {S : Type 0} → Progress S → Type 0
 IsOver p = (p.lines ≡ []) × (p.turns ≡ [])
-
--- the place of the next line, if these are to come, or else of the line whose block ends next
-abbrev pub IsAtPlace : List (ℕ × (ℕ × List ℕ)) → List Turn → ℕ → Type 0
-IsAtPlace [] turns place =
-    (outer : List Turn) × (turn : Turn) × (turns ≡ outer ++ turn ∷ []) × (place ≡ turn.place)
-IsAtPlace (l ∷ ls) turns place = place ≡ l.0
 
 -- how many lines a script may draw, each end of a block's turn counted as one: a million more than it
 -- has
@@ -88,8 +82,9 @@ pub record IsCutOff {S : Type 0} (facts : Ghosts S) (verbose : Bool) (shapes : L
   pub last : Progress S
   pub reached : ComesTo facts verbose shapes first count last
   pub left : S
-  pub settled : (left ≡ last.sketch.canvas) ⊎ ((begun : S)
-      × facts.begins last.sketch.canvas verbose begun × facts.settles begun left)
+  pub settled : (left ≡ last.sketch.canvas) ⊎ ((place : ℕ) × IsAtPlace last.lines last.turns place
+      × (begun : S) × facts.begins last.sketch.canvas place verbose begun
+      × facts.settles begun left)
   pub leaves : facts.settles left canvas ⊎ facts.loses left canvas
 
 -- how a call ended that began before the first line: all were drawn; or those before a refused one;

@@ -7,9 +7,11 @@ use Rattle.map_script.specs.Errors.{code_of}
 use Rattle.map_script.specs.Firsts.{firsts_of}
 use Rattle.map_script.specs.Lines.{names_after}
 use Rattle.map_script.specs.Meant.{numbered}
+use Rattle.map_script.specs.Referents.{kind_referred}
 use Rattle.map_script.specs.Scopes.{Scope, with_answer, with_given}
 use Rattle.map_script.specs.declared.firsts.Firsts.{Firsts}
 use Rattle.map_script.specs.declared.firsts.Numbers.{Numbers}
+use Rattle.map_script.specs.declared.referent.Referent.{Referent}
 use Rattle.run_canvas.specs.declared.canvas.Canvas.{Ghosts}
 
 -- if a line is a command, these are the first items that it adds to the maps
@@ -19,14 +21,16 @@ AddsFirst text p firsts =
     → firsts ≡ firsts_of c (current_map p)
 
 -- the names, with the one that a line gives to its numbers, if it gives one
-abbrev pub with_line_name : Option (List ℕ) → Numbers → Scope → Scope
-with_line_name None numbers names = names
-with_line_name (Some name) numbers names = with_given names name (numbered numbers)
+abbrev pub with_line_name : Option (List ℕ) → Numbers → Referent → Scope → Scope
+with_line_name None numbers referent names = names
+with_line_name (Some name) numbers referent names =
+    with_given names name (numbered numbers referent)
 
--- the same behind the line, which answered
-abbrev pub with_given_name : Option (List ℕ) → Numbers → Scope → Scope
-with_given_name name numbers names =
-    with_line_name name numbers (with_answer names numbers.answer)
+-- the same behind the line, which answered a number of this
+abbrev pub with_given_name : Option (List ℕ) → Numbers → Referent → Scope → Scope
+with_given_name name numbers referent names =
+    with_line_name name numbers referent
+    (with_answer names (record { number = numbers.answer; kind = kind_referred referent }))
 
 -- `NUMBER: ok N`, if the answers to commands are written
 abbrev pub noted_text : Bool → ℕ → ℕ → List ℕ

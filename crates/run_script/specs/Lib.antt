@@ -9,3 +9,4 @@ pub mod Progress
 pub mod Shaped
 pub mod Stopped
 pub mod Turns
+pub mod Whole

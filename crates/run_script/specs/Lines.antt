@@ -5,6 +5,7 @@ use Rattle.map_tables.specs.Projects.{ProjectMaps, current_map}
 use Rattle.map_script.specs.Errors.{code_of}
 use Rattle.map_script.specs.Firsts.{counts_of, firsts_since}
 use Rattle.map_script.specs.Lines.{let_words, line_for, name_in}
+use Rattle.map_script.specs.Referents.{referent_of}
 use Rattle.map_script.specs.Scopes.{Scope}
 use Rattle.map_script.specs.Words.{text_words}
 use Rattle.map_script.specs.declared.firsts.Firsts.{Firsts}
@@ -46,8 +47,8 @@ Added text p q firsts =
     OneOf (is_shape_line text)
     (firsts ≡ firsts_since (counts_of (current_map p)) (current_map q)) (AddsFirst text p firsts)
 
--- how a line ends that had this outcome: refused with the code; or its name keeps the numbers, and
--- its answer is written if wanted
+-- how a line ends that had this outcome: refused with the code; or its name keeps the numbers and of
+-- what its answer is the number, and its answer is written if wanted
 abbrev pub EndsChange : {S : Type 0} → Bool → ℕ × List ℕ → List ℕ → ProjectMaps → ProjectMaps
     → Result ℕ ℕ → Sketch S → Option ℕ → Sketch S → Type 0
 EndsChange verbose line text p q (Err code) old refusal new =
@@ -56,7 +57,7 @@ EndsChange verbose line text p q (Ok n) old refusal new =
     (refusal ≡ None) × Appends old.written new.written (noted_text verbose line.0 n)
     × ((firsts : Firsts) × Added text p q firsts
     × (new.names ≡ with_given_name (name_in (text_words line.1))
-    (record { answer = n; firsts = firsts }) old.names))
+    (record { answer = n; firsts = firsts }) (referent_of (text_words text)) old.names))
 
 -- a line that is no query was tried, and it ended so
 abbrev pub IsTried : {S : Type 0} → Ghosts S → Bool → ℕ × List ℕ → List ℕ → Sketch S → Option ℕ

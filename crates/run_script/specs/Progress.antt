@@ -1,5 +1,5 @@
 -- How a script goes on, a line or the end of a turn at a time (docs/COMMANDS.md, "Scripts").
-use Rattle.std.specs.Prelude.{◌≡◌, ℕ, Bool, List, [], ◌∷◌, Option, Result, MatchOption}
+use Rattle.std.specs.Prelude.{◌≡◌, ℕ, Bool, List, [], ◌∷◌, ◌++◌, Option, Result, MatchOption}
 use Rattle.map_tables.specs.Projects.{current_map}
 use Rattle.map_script.specs.Words.{text_words}
 use Rattle.map_blocks.specs.Defined.{Shape}
@@ -22,6 +22,12 @@ at_position s at = record {
   lines = at.lines;
   turns = at.turns;
 }
+
+-- the place of the next line, if these are to come, or else of the line whose block ends next
+abbrev pub IsAtPlace : List (ℕ × (ℕ × List ℕ)) → List Turn → ℕ → Type 0
+IsAtPlace [] turns place =
+    (outer : List Turn) × (turn : Turn) × (turns ≡ outer ++ turn ∷ []) × (place ≡ turn.place)
+IsAtPlace (l ∷ ls) turns place = place ≡ l.0
 
 -- ---- A line or the end of a turn
 
@@ -66,10 +72,11 @@ on_canvas canvas p = record {
   turns = p.turns;
 }
 
--- the same after the canvas has begun the line: where answers are written, each command is put by
--- itself, and else what waits may be put first
+-- the same after the canvas has begun the line at hand: where answers are written, each command is
+-- put by itself, and else what waits may be put first
 abbrev pub Steps : {S : Type 0} → Ghosts S → Bool → List Shape → Progress S → Option ℕ
     → Progress S → Type 0
 Steps {S = S} facts verbose shapes old refusal new =
-    (canvas : S) × facts.begins old.sketch.canvas verbose canvas
+    (place : ℕ) × IsAtPlace old.lines old.turns place
+    × (canvas : S) × facts.begins old.sketch.canvas place verbose canvas
     × Advances facts verbose shapes (on_canvas canvas old) refusal new

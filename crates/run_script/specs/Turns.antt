@@ -8,11 +8,13 @@ use Rattle.map_script.specs.Errors.{code_of}
 use Rattle.map_script.specs.Loops.{loop_name, loop_range, loop_words}
 use Rattle.map_script.specs.Firsts.{firsts_since}
 use Rattle.map_script.specs.Meant.{numbered}
+use Rattle.map_script.specs.Referents.{of_kind}
 use Rattle.map_script.specs.Scopes.{Scope, mark_of, released, with_given}
 use Rattle.map_script.specs.declared.error.DrawError.{DrawError}
 use Rattle.map_script.specs.declared.error.DrawError.TheVariants.{NothingAdded}
 use Rattle.map_script.specs.declared.looping.Range.{Range}
 use Rattle.map_script.specs.declared.placing.Placing.{Placing}
+use Rattle.map_script.specs.declared.referent.Answer.{Answer}
 use Rattle.map_blocks.specs.Blocks.{behind_block, block_lines}
 use Rattle.map_blocks.specs.Defined.{Shape, shape_called}
 pub use Rattle.run_script.specs.Calls.{after_define, after_drawing, after_shape, in_shape, turn_of_shape}
@@ -114,15 +116,16 @@ after_count names turns t (Some c) = in_turn names names.placing turns (record {
   before = t.before;
 })
 
--- a name stands for the last answer of the shape that it names, and for the first items that the map
--- has gained; a shape that answered nothing can't be named
-abbrev pub named_by : Scope → Tables → Naming → Option ℕ → Result Scope DrawError
+-- a name stands for the last answer of the shape that it names, a number of an item of the answer's
+-- kind, and for the first items that the map has gained; a shape that answered nothing can't be named
+abbrev pub named_by : Scope → Tables → Naming → Option Answer → Result Scope DrawError
 named_by names m naming None = Err NothingAdded
 named_by names m naming (Some answer) = Ok (with_given names naming.name
-    (numbered (record { answer = answer; firsts = firsts_since naming.before m })))
+    (numbered (record { answer = answer.number; firsts = firsts_since naming.before m })
+    (of_kind answer.kind)))
 
 -- the same, if the shape is named
-abbrev pub with_naming : Scope → Tables → Option ℕ → Option Naming → Result Scope DrawError
+abbrev pub with_naming : Scope → Tables → Option Answer → Option Naming → Result Scope DrawError
 with_naming names m answered None = Ok names
 with_naming names m answered (Some naming) = named_by names m naming answered
 

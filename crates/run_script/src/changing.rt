@@ -11,7 +11,9 @@ ghost use Rattle.run_script.specs.Given.{AddsFirst, noted_text, with_given_name}
 
 use crate::shaping::draw_shape;
 use map_commands::parse;
-use map_script::{Firsts, Names, Numbers, ScriptLine, defined_name, firsts_of};
+use map_script::{
+    Answer, Firsts, Names, Numbers, Referent, ScriptLine, defined_name, firsts_of, referent_of,
+};
 use map_shapes::is_shape_line;
 use map_tables::Maps;
 use run_canvas::{Canvas, ScriptError};
@@ -37,20 +39,26 @@ fn added_by(maps: &Maps, text: &[u8]) -> Firsts
     }
 }
 
-// Keeps the answer of a command, and its numbers under the name that its line gives, if it gives one.
+// Keeps the answer of a command, the number of `referent`, and its numbers under the name that its line gives, if it
+// gives one.
 fn keep_name(
     alloc: Global,
     names: &mut Names,
     name: Option<&[u8]>,
     numbers: Numbers,
+    referent: Referent,
 ) -> Result<(), ScriptError>
     ensures ok { IfOk result (λ _. scope_of names.new
-        ≡ with_given_name (option_copied name.entry) numbers (scope_of names.old)) }
+        ≡ with_given_name (option_copied name.entry) numbers referent (scope_of names.old)) }
     ensures refused { IfErr result (λ e. e ≡ OutOfMemory) }
 {
-    names.put_answer(numbers.answer);
+    let kind = referent.kind();
+    names.put_answer(Answer {
+        number: numbers.answer,
+        kind,
+    });
     match name {
-        Some(name) => match names.define(alloc, name, numbers) {
+        Some(name) => match names.define(alloc, name, numbers, referent) {
             Ok(()) => Ok(()),
             Err(_) => Err(ScriptError::OutOfMemory),
         },
@@ -136,7 +144,8 @@ pub fn try_command<C: Canvas, W: Write>(
         Ok(numbers) => numbers,
         Err(code) => return Ok(Some(code)),
     };
-    match keep_name(alloc, names, defined_name(line.text), numbers) {
+    let referent = referent_of(text);
+    match keep_name(alloc, names, defined_name(line.text), numbers, referent) {
         Ok(()) => {}
         Err(error) => return Err(error),
     }

@@ -233,7 +233,7 @@ fn draw_all<C: Canvas, W: Write>(
         let Some(place) = place_at_hand(lines, &reading) else {
             return Ok(finish(alloc, canvas, None, first));
         };
-        if !canvas.begin_line(is_verbose) {
+        if !canvas.begin_line(place, is_verbose) {
             return Ok(Some(lost_from(alloc, first)));
         }
         let refusal = match advance(

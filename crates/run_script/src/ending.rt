@@ -8,7 +8,7 @@ ghost use Rattle.run_script.specs.Places.{IsToldBehind, IsWithinLines, counting_
 ghost use Rattle.run_script.specs.Turns.{EndsTurn, next_count, with_naming};
 
 use crate::reading::{Block, Count, Naming, Reading, enter, leave};
-use map_script::{DrawError, Names, Numbers, ScriptLines, firsts_since};
+use map_script::{Answer, DrawError, Names, Numbers, Referent, ScriptLines, firsts_since};
 use map_tables::Map;
 use run_canvas::Canvas;
 use std::alloc::Global;
@@ -27,13 +27,13 @@ fn next_count(count: Option<Count>) -> Option<Count>
     }
 }
 
-// Gives the name of a line that drew a shape its numbers: what the shape answered last, and the first items that the
-// map has gained.
+// Gives the name of a line that drew a shape its numbers: what the shape answered last, and of which kind of item that
+// is the number, and the first items that the map has gained.
 fn give_name(
     alloc: Global,
     map: &Map,
     names: &mut Names,
-    answered: Option<u32>,
+    answered: Option<Answer>,
     naming: &Option<Naming>,
 ) -> Result<(), DrawError>
     ensures ok { IfOk result (λ _.
@@ -50,7 +50,12 @@ fn give_name(
         return Err(DrawError::NothingAdded);
     };
     let firsts = firsts_since(&naming.before, map);
-    names.define(alloc, &naming.name, Numbers { answer, firsts })
+    let referent = Referent::of_kind(answer.kind);
+    let numbers = Numbers {
+        answer: answer.number,
+        firsts,
+    };
+    names.define(alloc, &naming.name, numbers, referent)
 }
 
 /// Ends the innermost turn: begins the next one, or goes behind the block, and gives the name of a line that drew a

@@ -4,6 +4,7 @@
 mod changing;
 mod drawing;
 mod ending;
+mod laws;
 mod line;
 mod opening;
 mod reading;
@@ -12,4 +13,5 @@ mod shaping;
 mod stops;
 
 pub use drawing::draw;
-pub use stops::drawings_hold_acknowledged;
+pub use laws::origins_draw_the_same_maps;
+pub use stops::{drawings_hold_acknowledged, shapes_wait_together};

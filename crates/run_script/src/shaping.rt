@@ -1,9 +1,11 @@
-//! Draws a shape of a script: it is decided as a whole over the maps as they are, then its commands are done in turn.
-ghost use Rattle.std.specs.Prelude.{◌≡◌, ◌⊎◌, nat_le, All, IfErr, IfOk, MatchResult, Ok, Err};
+//! Draws a shape of a script: it is decided as a whole over the maps as they are, then its commands are done in turn,
+//! which wait together if room for all of them can be made.
+ghost use Rattle.std.specs.Prelude.{◌≡◌, ◌⊎◌, nat_le, List, All, map, vec_items, IfErr, IfOk, IsOkUnless, MatchResult, Ok, Err};
+ghost use Rattle.map_commands.specs.declared.command.Command.{Command};
 ghost use Rattle.map_commands.specs.Step.{InRange, growth_of, need_of};
 ghost use Rattle.map_script.specs.Firsts.{counts_of, firsts_since};
 ghost use Rattle.map_tables.specs.Projects.{current_map, project_of};
-ghost use Rattle.run_script.specs.Shaped.{DrawsShape, EndsAll, IsPlanned, RefusesWhole, growth_of_all, has_room, command_line};
+ghost use Rattle.run_script.specs.Shaped.{DrawsShape, EndsAll, IsPlanned, RefusesWhole, growth_of_all, has_room, command_lines};
 
 use map_commands::{Command, CommandError, ProjectCommand, growth_of, need_of, print};
 use map_script::{Numbers, counts_of, firsts_since};
@@ -12,10 +14,10 @@ use map_tables::Maps;
 use run_canvas::Canvas;
 use std::alloc::Global;
 
-// A shape's commands, and the number that it answers.
+// The lines of a shape's commands, and the number that it answers.
 #[derive(Drop)]
 pub struct Plan {
-    commands: Vec<Command>,
+    lines: Vec<Vec<u8>>,
     answer: u32,
 }
 
@@ -49,11 +51,31 @@ fn has_room(maps: &Maps, cap: u32, commands: &[Command]) -> bool
     len <= cap && fits(commands, u64::from(cap - len))
 }
 
+// The lines of commands. Only lack of memory refuses them.
+fn command_lines(alloc: Global, commands: &[Command]) -> Result<Vec<Vec<u8>>, CommandError>
+    requires { All InRange commands.now }
+    ensures lines { IfOk result (λ lines. map vec_items lines.items ≡ command_lines commands.now) }
+    ensures memory { IsOkUnless result CommandError.OutOfMemory }
+{
+    let mut lines = Vec::new(alloc);
+    for command in commands {
+        let line = match print(alloc, &ProjectCommand::Current(*command)) {
+            Ok(line) => line,
+            Err(error) => return Err(error),
+        };
+        match lines.push(line) {
+            Ok(()) => {}
+            Err(_) => return Err(CommandError::OutOfMemory),
+        }
+    }
+    Ok(lines)
+}
+
 // Decides what a line of a shape is to do over the maps, or returns the code of its refusal.
 fn planned(alloc: Global, maps: &Maps, cap: u32, text: &[u8]) -> Result<Plan, u16>
-    ensures planned { IfOk result (λ p.
-        IsPlanned (project_of maps.now) cap text.now p.commands.items p.answer) }
-    ensures range { IfOk result (λ p. All InRange p.commands.items) }
+    ensures planned { IfOk result (λ p. (commands : List Command)
+        × IsPlanned (project_of maps.now) cap text.now commands p.answer
+        × (map vec_items p.lines.items ≡ command_lines commands)) }
     ensures refused { IfErr result (RefusesWhole (project_of maps.now) cap text.now) }
 {
     let shape = match read_shape(alloc, text) {
@@ -67,31 +89,20 @@ fn planned(alloc: Global, maps: &Maps, cap: u32, text: &[u8]) -> Result<Plan, u1
     if !has_room(maps, cap, &commands) {
         return Err(CommandError::ProjectFull.code());
     }
+    let lines = match command_lines(alloc, &commands) {
+        Ok(lines) => lines,
+        Err(error) => return Err(error.code()),
+    };
     let answer = answer_of(maps.current(), &shape);
-    Ok(Plan { commands, answer })
+    Ok(Plan { lines, answer })
 }
 
-// Does a command, and returns its number or the code of its refusal.
-fn change<C: Canvas>(alloc: Global, canvas: &mut C, command: &Command) -> Result<u32, u16>
-    requires { InRange command.now }
-    ensures { MatchResult result
-        (λ n. C.Canvas.changes canvas.old (command_line command.now) (Ok n) canvas.new)
-        (λ code. C.Canvas.changes canvas.old (command_line command.now) (Err code) canvas.new
-        ⊎ ((code ≡ 31) × (canvas.new ≡ canvas.old))) }
+// Does commands in turn, up to the first refused one. These are their lines.
+fn change_all<C: Canvas>(canvas: &mut C, lines: &[Vec<u8>]) -> Result<(), u16>
+    ensures { EndsAll C.Canvas (map vec_items lines.now) canvas.old result canvas.new }
 {
-    match print(alloc, &ProjectCommand::Current(*command)) {
-        Ok(line) => canvas.change(&line),
-        Err(error) => Err(error.code()),
-    }
-}
-
-// Does commands in turn, up to the first refused one.
-fn change_all<C: Canvas>(alloc: Global, canvas: &mut C, commands: &[Command]) -> Result<(), u16>
-    requires { All InRange commands.now }
-    ensures { EndsAll C.Canvas commands.now canvas.old result canvas.new }
-{
-    for i in 0..commands.len() {
-        match change(alloc, canvas, &commands[i]) {
+    for i in 0..lines.len() {
+        match canvas.change(&lines[i]) {
             Ok(_) => {}
             Err(code) => return Err(code),
         }
@@ -112,7 +123,10 @@ pub fn draw_shape<C: Canvas>(alloc: Global, canvas: &mut C, text: &[u8]) -> Resu
         Err(code) => return Err(code),
     };
     let before = counts_of(canvas.maps().current());
-    match change_all(alloc, canvas, &plan.commands) {
+    if let Some(code) = canvas.make_room(&plan.lines) {
+        return Err(code);
+    }
+    match change_all(canvas, &plan.lines) {
         Ok(()) => {
             let firsts = firsts_since(&before, canvas.maps().current());
             Ok(Numbers {

@@ -1,11 +1,13 @@
 //! A drawing onto a project that is stopped at any moment.
-ghost use Rattle.std.specs.Prelude.{ℕ, Bool, List, Option, Result};
+ghost use Rattle.std.specs.Prelude.{◌≡◌, ℕ, Bool, List, Option, Result, Ok, false};
 ghost use Rattle.store_project.specs.Calls.{AllMade, ProjectCall};
 ghost use Rattle.store_project.specs.Sessions.{Creates};
 ghost use Rattle.store_project.specs.States.{State};
 ghost use Rattle.run_canvas.specs.Canvases.{project_canvas};
 ghost use Rattle.run_script.specs.Drawn.{IsScriptDrawn};
+ghost use Rattle.run_script.specs.Shaped.{DrawsShape};
 ghost use Rattle.run_script.specs.Stopped.{HoldsAtMoments};
+ghost use Rattle.run_script.specs.Whole.{IsDrawnWhole};
 ghost use Rattle.run_canvas.specs.Waiting.{Drawing, first_drawing};
 ghost use Rattle.map_blocks.specs.declared.stop.Stop.{Stop};
 ghost use Rattle.run_canvas.specs.declared.error.ScriptError.{ScriptError};
@@ -13,7 +15,8 @@ ghost use Rattle.run_canvas.specs.declared.error.ScriptError.{ScriptError};
 use store_disk::Disk;
 use store_project::hold_each_acknowledged;
 
-/// By the contract of `draw`, a drawing onto a project is a list of calls of `put` and `apply`. So a session may hold
+/// By the contract of `draw`, a drawing onto a project is a list of calls of `put`, `apply` and
+/// `checkpoint`. So a session may hold
 /// drawings beside other calls and runs, as `hold_each_acknowledged` requires. If a drawing onto a new project is
 /// stopped before or within any write, each image stands for the map of a prefix of the accepted commands that holds
 /// every acknowledged one, and that is what `open` gives. The prefix has all commands of a group or none. The body only
@@ -33,3 +36,13 @@ pub fn drawings_hold_acknowledged<D: Disk>()
 {
     hold_each_acknowledged::<D>();
 }
+
+/// The commands that a shape becomes wait together, so that they go to the disk by one call of `put`: it leaves all of
+/// them or none. Otherwise each command is put by itself, as the answers are written; or they are longer than an empty
+/// journal holds; or there was no memory for a group.
+pub fn shapes_wait_together<D: Disk>()
+    ensures { (old : Drawing D) (new : Drawing D) (line : List ℕ) (answer : ℕ)
+        → old.is_alone ≡ false
+        → DrawsShape (project_canvas D.Disk) line old (Ok answer) new
+        → IsDrawnWhole D.Disk line old answer new }
+{}

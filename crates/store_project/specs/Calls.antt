@@ -1,12 +1,12 @@
 -- The calls of a session, each with its answer.
-use Rattle.std.specs.Prelude.{◌≡◌, ◌⊎◌, ℕ, Bool, true, false, if◌then◌else◌, List, [], ◌∷◌, flat_map, Result, Ok, Err, IfErr, IsErrOf}
+use Rattle.std.specs.Prelude.{◌≡◌, ◌⊎◌, ℕ, Bool, true, false, if◌then◌else◌, List, [], ◌∷◌, flat_map, Result, Ok, Err, IfErr, IsErrOf, OnOk}
 use Rattle.store_disk.specs.Moments.{LeavesOnly}
 use Rattle.store_disk.specs.declared.disk.Disk.{Ghosts}
 use Rattle.map_tables.specs.Projects.{ProjectMaps, project_of}
 use Rattle.store_project.specs.Groups.{AcceptsAll, EndsPut, Staged, staged_lines}
 use Rattle.store_project.specs.Stands.{IsOutcome, StandsFor, StandsForEither}
 use Rattle.store_project.specs.States.{State, IsProjectKept}
-use Rattle.store_project.specs.Outcomes.{CanLack, EndsApply, EndsCheckpoint}
+use Rattle.store_project.specs.Outcomes.{CanLack, EndsApply, EndsCheckpoint, IsEmptied}
 use Rattle.store_project.specs.declared.error.ProjectError.{ProjectError}
 use Rattle.store_project.specs.declared.error.ProjectError.TheVariants.{Device, OutOfMemory}
 
@@ -64,8 +64,10 @@ pub record Checkpoints {D : Type 0} (facts : Ghosts D)
   pub maps : new.maps ≡ old.maps
   pub any_moment : old.must_reopen ≡ false
       → LeavesOnly facts old.disk new.disk (StandsFor old.cap (project_of old.maps))
+  pub emptied : OnOk answer (IsEmptied new)
   pub kept : IsProjectKept facts new
   pub same_cap : new.cap ≡ old.cap
+  pub same_journal : new.journal ≡ old.journal
 
 -- what `put` promises of a group of these lines
 pub record PutsGroup {D : Type 0} (facts : Ghosts D)

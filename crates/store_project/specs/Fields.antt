@@ -23,6 +23,7 @@ project_state p = record {
   generation = generation_of p.slots;
   must_reopen = p.must_reopen;
   cap = cap_of p.geometry;
+  journal = p.geometry.journal;
   room = room_of p.journal;
 }
 

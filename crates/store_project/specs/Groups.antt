@@ -3,6 +3,7 @@ use Rattle.std.specs.Prelude.{◌≡◌, ◌<◌, ◌+◌, ◌-◌, ℕ, true, f
 use Rattle.store_disk.specs.Stops.{Rose}
 use Rattle.store_disk.specs.declared.disk.Disk.{Ghosts}
 use Rattle.store_journal.specs.Groups.{IsGroupOf}
+use Rattle.store_journal.specs.Records.{records_bytes}
 use Rattle.store_journal.specs.State.{IsAbove}
 use Rattle.map_tables.specs.Projects.{MapsView, ProjectMaps, project_of}
 use Rattle.map_commands.specs.Errors as commands
@@ -46,6 +47,11 @@ IsGroupFor project group = (staged : List Staged) × CanPut project group staged
 -- the project's journal has no room for the group's lines and this one behind them
 abbrev pub IsFullFor : {D : Type 0} → State D → GroupState → List ℕ → Type 0
 IsFullFor project group line = IsAbove project.room (length group.bytes - 1 + length line)
+
+-- the project's journal has no room for the records of these lines behind others that take so many
+-- bytes
+abbrev pub LacksRoom : {D : Type 0} → State D → ℕ → List (List ℕ) → Type 0
+LacksRoom project behind lines = IsAbove project.room (behind + length (records_bytes lines) - 5)
 
 -- the group has the lines and the maps that it had
 abbrev pub IsSameGroup : GroupState → GroupState → Type 0

@@ -1,5 +1,5 @@
 -- How the calls of a project end.
-use Rattle.std.specs.Prelude.{◌≡◌, ◌≢◌, ◌≤◌, ◌⊎◌, ◌+◌, ◌-◌, ◌^◌, ℕ, true, false, List, length, Option, Result, Ok, Err}
+use Rattle.std.specs.Prelude.{◌≡◌, ◌≢◌, ◌≤◌, ◌⊎◌, ◌+◌, ◌-◌, ◌^◌, ℕ, true, false, List, length, Option, Some, Result, Ok, Err}
 use Rattle.store_disk.specs.Stops.{Rose}
 use Rattle.store_disk.specs.declared.disk.Disk.{Ghosts}
 use Rattle.store_journal.specs.State.{IsAbove}
@@ -78,6 +78,10 @@ EndsCheckpoint facts (Err e) old new = RefusesCheckpoint facts e old new
 -- a journal with this room takes any line
 abbrev pub IsFresh : Option ℕ → Type 0
 IsFresh room = (len : ℕ) → len ≤ 256 → ¬ IsAbove room len
+
+-- the journal has no record: what isn't for a line is five bytes before it, and the gate behind it
+abbrev pub IsEmptied : {D : Type 0} → State D → Type 0
+IsEmptied project = project.room ≡ Some (project.journal - 6)
 
 -- how a call ended that was to make room for a line of so many bytes
 abbrev pub EndsRoom : {D : Type 0} → Ghosts D → Result Unit ProjectError → State D → State D → ℕ

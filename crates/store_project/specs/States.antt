@@ -7,13 +7,14 @@ use Rattle.map_tables.specs.Projects.{MapsView, project_of}
 use Rattle.store_project.specs.Stands.{Stands}
 
 -- its disk, its map, the live generation, whether it must be opened again, how long a body may be,
--- and the longest line that its journal has room for
+-- how long each journal is, and the longest line that the live one has room for
 pub record State (D : Type 0) : Type 0 where
   pub disk : D
   pub maps : MapsView
   pub generation : ℕ
   pub must_reopen : Bool
   pub cap : ℕ
+  pub journal : ℕ
   pub room : Option ℕ
 
 -- where it needn't be opened again, each image of its disk stands for its map with its generation

@@ -77,7 +77,7 @@ impl<D: Disk> Project<D> {
     ghost use Rattle.store_slots.specs.Handles.{body_in, generation_in};
     ghost use Rattle.map_tables.specs.ProjectBody.{project_body};
     ghost use Rattle.store_project.specs.States.{IsProjectKept};
-    ghost use Rattle.store_project.specs.Outcomes.{CanLack, EndsApply, EndsCheckpoint, EndsRoom, IsFresh, TurnsWhereFull};
+    ghost use Rattle.store_project.specs.Outcomes.{CanLack, EndsApply, EndsCheckpoint, EndsRoom, IsEmptied, IsFresh, TurnsWhereFull};
 
     /// The maps.
     pub fn maps(&self) -> &Maps
@@ -137,7 +137,8 @@ impl<D: Disk> Project<D> {
     /// A new project with the empty map on an empty disk. It allocates no memory, and ends with its only sync.
     pub fn create(alloc: Global, disk: D, geometry: Geometry) -> Result<Project<D>, Refused<D>>
         ensures made { IfOk result (λ p. ((project_of p.maps) ≡ empty_project) × (p.generation ≡ 1)
-            × (p.must_reopen ≡ false) × (p.cap ≡ cap_of geometry)) }
+            × (p.must_reopen ≡ false) × (p.cap ≡ cap_of geometry)
+            × (p.journal ≡ geometry.journal)) }
         ensures kept { IfOk result (λ p. IsProjectKept D.Disk p) }
         // It has exactly these lengths, which are allowed, and the file was empty.
         ensures lengths { IfOk result (λ p. Each (D.may_leave p.disk) (TellsLengths geometry)) }
@@ -229,7 +230,9 @@ impl<D: Disk> Project<D> {
         ensures any_moment { LeavesOnly D.Disk self.old.disk self.new.disk
             (StandsFor self.old.cap (project_of self.old.maps)) }
         ensures room { OnOk result (IsFresh self.new.room) }
+        ensures emptied { OnOk result (IsEmptied self.new) }
         ensures cap { self.new.cap ≡ self.old.cap }
+        ensures journal { self.new.journal ≡ self.old.journal }
         ensures later { D.failures self.old.disk ≤ D.failures self.new.disk }
         ensures kept { IsProjectKept D.Disk self.new }
     {
@@ -255,13 +258,14 @@ impl<D: Disk> Project<D> {
             ↔ (self.old.must_reopen ≡ false) × (self.old.generation ≡ 2 ^ 64 - 1) }
         ensures ends { EndsCheckpoint D.Disk result self.old self.new }
         ensures maps { self.new.maps ≡ self.old.maps }
-
         // A stop at any moment of the call leaves the map.
         ensures any_moment { self.old.must_reopen ≡ false
             → LeavesOnly D.Disk self.old.disk self.new.disk
             (StandsFor self.old.cap (project_of self.old.maps)) }
         ensures room { OnOk result (IsFresh self.new.room) }
+        ensures emptied { OnOk result (IsEmptied self.new) }
         ensures cap { self.new.cap ≡ self.old.cap }
+        ensures journal { self.new.journal ≡ self.old.journal }
         ensures later { D.failures self.old.disk ≤ D.failures self.new.disk }
         ensures kept { IsProjectKept D.Disk self.new }
     {
@@ -295,6 +299,7 @@ impl<D: Disk> Project<D> {
         ensures any_moment { LeavesOnly D.Disk self.old.disk self.new.disk
             (StandsFor self.old.cap (project_of self.old.maps)) }
         ensures cap { self.new.cap ≡ self.old.cap }
+        ensures journal { self.new.journal ≡ self.old.journal }
         ensures kept { IsProjectKept D.Disk self.new }
     {
         if self.has_room(len) {
@@ -325,6 +330,7 @@ impl<D: Disk> Project<D> {
         ensures any_moment { LeavesOnly D.Disk self.old.disk self.new.disk
             (IsOutcome self.old.cap (project_of self.old.maps) line.now) }
         ensures cap { self.new.cap ≡ self.old.cap }
+        ensures journal { self.new.journal ≡ self.old.journal }
         ensures kept { IsProjectKept D.Disk self.new }
     {
         match self.journal.append(&mut self.disk, line) {
@@ -372,6 +378,7 @@ impl<D: Disk> Project<D> {
         // Each image now stands for the map, unless the project must be opened again.
         ensures kept { IsProjectKept D.Disk self.new }
         ensures cap { self.new.cap ≡ self.old.cap }
+        ensures journal { self.new.journal ≡ self.old.journal }
     {
         if self.must_reopen {
             return Err(ProjectError::Reopen);

@@ -3,7 +3,9 @@
 use crate::drawing::{AMPLE, answer};
 use crate::expect::same;
 use map_commands::parse;
-use map_script::{Names, Numbers, defined_name, firsts_of, give_words, resolve, script_lines};
+use map_script::{
+    Names, Numbers, defined_name, firsts_of, give_words, referent_of, resolve, script_lines,
+};
 use map_tables::Maps;
 use std::alloc::Global;
 use std::test::Fail;
@@ -38,11 +40,13 @@ const NAMED: &[(&[u8], Result<&[u8], u16>)] = &[
     (b"hall = room 0 0 256 256 0 128 FLOOR4_8 CEIL3_5 STARTAN3 160",
         Ok(b"room 0 0 256 256 0 128 FLOOR4_8 CEIL3_5 STARTAN3 160")),
     (b"cut = split $hall.line+2 256 128", Ok(b"split 2 256 128")),
-    (b"line $vertex(256,256) $line(0,64) $vertex(0,0)+5 0 0 0 -", Ok(b"line 2 0 5 0 0 0 -")),
-    (b"split $sector(1,255) 0 0", Ok(b"split 0 0 0")), (b"split $line(0,0) 0 0", Ok(b"split 0 0 0")),
+    (b"line $vertex(256,256) $vertex(0,0) $vertex(0,0)+5 $line(0,64) 0 0 -", Ok(b"line 2 0 5 0 0 0 -")),
+    (b"vertex $sector(1,255) 0", Ok(b"vertex 0 0")), (b"split $line(0,0) 0 0", Ok(b"split 0 0 0")),
     (b"split $line(256,0)+1 0 0", Ok(b"split 4 0 0")), (b"split $sector(256,1) 0 0", Err(45)),
     (b"split $vertex(1,0) 0 0", Err(45)), (b"split $thing(0,0) 0 0", Err(45)),
-    (b"split $vertex(99999,0) 0 0", Err(45)), (b"split $vertex(0,-0) 0 0", Ok(b"split 0 0 0")),
+    (b"split $vertex(99999,0) 0 0", Err(45)), (b"vertex $vertex(0,-0) 0", Ok(b"vertex 0 0")),
+    (b"split $vertex(0,-0) 0 0", Err(21)), (b"line $hall $cut.vertex 1 0 0 $hall.side -", Err(21)),
+    (b"split $hall.south 0 0", Ok(b"split 3 0 0")), (b"split $cut.south 0 0", Err(23)),
     (b"split $side(0,0) 0 0", Err(21)), (b"split $vertex(0) 0 0", Err(21)),
     (b"split $vertex(0,0 0 0", Err(21)), (b"split $vertex(0,0)1 0 0", Err(21)),
     (b"split $vertex(0,0)+ 0 0", Err(46)), (b"split $vertex(0,0,0) 0 0", Err(46)),
@@ -72,7 +76,10 @@ fn draw(
     let firsts = firsts_of(&parse(text)?, maps.current());
     let drawn = answer(maps, text, AMPLE);
     match (defined_name(line), drawn) {
-        (Some(name), Ok(answer)) => Ok(names.define(alloc, name, Numbers { answer, firsts })?),
+        (Some(name), Ok(answer)) => {
+            let numbers = Numbers { answer, firsts };
+            Ok(names.define(alloc, name, numbers, referent_of(text))?)
+        }
         _ => Ok(()),
     }
 }

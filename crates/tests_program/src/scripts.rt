@@ -14,6 +14,11 @@ const SCRIPT: &str = "leveled_scripts_script";
 
 const SCRIPT_TEXT: &[u8] = b"# corners\nhere = vertex 0 0\nvertx $here 9\nvertex 1 1\n";
 
+// A script of which three lines are refused, the second only for lack of a name.
+const TYPOS: &str = "leveled_scripts_typos";
+
+const TYPOS_TEXT: &[u8] = b"gap = vertx 0 0\nthing $gap 0 0 1 7\nsplt 2 256 160\n";
+
 // A script that is a map with a vertex, and doesn't end with LF.
 const LEVEL: &str = "leveled_scripts_level";
 
@@ -45,6 +50,7 @@ const FORMLESS_TEXT: &[u8] = b"include one two\n";
 // The files of scripts, and their texts.
 const SCRIPTS: &[(&str, &[u8])] = &[
     (SCRIPT, SCRIPT_TEXT),
+    (TYPOS, TYPOS_TEXT),
     (LEVEL, LEVEL_TEXT),
     (PARTS, PARTS_TEXT),
     (INNER, INNER_TEXT),
@@ -54,11 +60,14 @@ const SCRIPTS: &[(&str, &[u8])] = &[
 ];
 
 // Arguments after `leveled`, the input, the status, the output, and standard error. A script of which a line is refused
-// draws nothing: the vertex of the second row is the first. No row makes the file without a script.
+// draws nothing: the vertex of the third row is the first. No row makes the file without a script.
 #[rattlefmt::skip]
 const RUNS: &[(&[&str], &[u8], u8, &[u8], &[u8])] = &[
     (&["draw", FILE, SCRIPT, "--verbose"], b"count\n", 3, b"",
         b"leveled_scripts_script:3: vertx $here 9: 1 NotACommand\n  perhaps this is meant: vertex X Y\n"),
+    (&["draw", FILE, TYPOS], b"", 3, b"",
+        b"leveled_scripts_typos:1: gap = vertx 0 0: 1 NotACommand\n  perhaps this is meant: vertex X Y\n\
+leveled_scripts_typos:3: splt 2 256 160: 1 NotACommand\n  perhaps this is meant: split LINE X Y\n"),
     (&["draw", FILE, "--verbose"], b"vertex 0 0", 0, b"1: ok 0\n", b""),
     (&["draw", FILE], b"\tcount\r\nvertex 0 0 # again\ncount\n", 3, b"",
         b"-:2: vertex 0 0: 10 PlaceTaken\n  vertex 0 stands at 0 0\n"),
@@ -71,7 +80,7 @@ const RUNS: &[(&[&str], &[u8], u8, &[u8], &[u8])] = &[
         b"leveled_scripts_script:3: vertx $here 9: 1 NotACommand\n  perhaps this is meant: vertex X Y\n"),
     (&["build", SCRIPT, NO_SCRIPT], b"", 3, b"",
         b"leveled_scripts_script:3: vertx $here 9: 1 NotACommand\n  perhaps this is meant: vertex X Y\n"),
-    (&["check", LEVEL], b"", 3, b"vertex 0 unused\nno player start\nfindings 2\n", b""),
+    (&["check", LEVEL], b"", 3, b"vertex 0 unused leveled_scripts_level:2\nno player start\nfindings 2\n", b""),
     (&["dump", LEVEL], b"", 0, b"name MAP01\nvertex 1 1\nmap MAP01\n", b""),
     (&["build", LEVEL, NO_SCRIPT], b"", 1, b"", b"leveled: 60 NothingToBuild\n  MAP01: has no line\n"),
     (&["draw", "--check", SCRIPT, "--verbose"], b"count\n", 3, b"2: ok 0\n",
@@ -95,11 +104,34 @@ const RUNS: &[(&[&str], &[u8], u8, &[u8], &[u8])] = &[
         b"leveled_scripts_formless:1: include one two: 1 NotACommand\n  this is its form: include FILE\n"),
     (&["lint", "-"], b"include leveled_scripts_file\n", 3, b"",
         b"-:1: include leveled_scripts_file: 42 NotAProject\n  leveled_scripts_file: is a project, no script\n"),
-    (&["check", "-"], b"count\nvertex 1 1", 3, b"vertex 0 unused\nno player start\nfindings 2\n", b""),
+    (&["check", "-"], b"count\nvertex 1 1", 3, b"vertex 0 unused -:2\nno player start\nfindings 2\n", b""),
     (&["check", "-"], b"LVPJ", 1, b"", b"leveled: 42 NotAProject\n  -: is a project, no script\n"),
     (&["check", "-", "MAP02"], b"vertex 1 1", 1, b"", b"leveled: 18 NoSuchMap\n"),
     (&["draw", "--check", "-"], b"PWAD", 1, b"", b"leveled: 37 ReaderFailed\n  -: is a WAD, no script\n"),
     (&["draw", "--check", "-", FILE], b"count", 0, b"vertices 2 sectors 0 sides 0 lines 0 things 0\n", b""),
+];
+
+// Arguments after `leveled`, a script from standard input, and what is printed with the lines that added its items:
+// with a named line, one in a loop and one in an `at`; with one of an included file and one in a shape's body; with
+// those behind a dropped item; with those of two maps, an item of which is changed later; with that of a thing. The
+// status is 3.
+#[rattlefmt::skip]
+const ORIGINS: &[(&[&str], &[u8], &[u8])] = &[
+    (&["check", "-"], b"a = vertex 0 0\nfor i 1 2\n vertex $i 0\nend\nat 8 8\n b = vertex 0 0\nend\n",
+        b"vertex 0 unused -:1 a\nvertex 1 unused -:3\nvertex 2 unused -:3\n\
+vertex 3 unused -:6 b\nno player start\nfindings 5\n"),
+    (&["check", "-"], b"include leveled_scripts_level\n\ndefine dot X\n vertex $X 5\nend\nd = dot 3\n",
+        b"vertex 0 unused leveled_scripts_level:2\nvertex 1 unused -:4\nno player start\nfindings 3\n"),
+    (&["check", "-"], b"vertex 0 0\nvertex 1 1\nvertex 2 2\ndrop vertex 1\nvertex 3 3\n",
+        b"vertex 0 unused -:1\nvertex 1 unused -:3\nvertex 2 unused -:5\nno player start\nfindings 4\n"),
+    (&["lint", "-", "--only", "check"],
+        b"map E1M1\nvertex 0 0\nmap MAP02\nvertex 1 1\nmap E1M1\nmove-vertex 0 3 3\n\
+drop-map MAP02\nmap MAP02\nvertex 4 4\n",
+        b"E1M1 vertex 0 unused -:2\nE1M1 no player start\n\
+MAP02 vertex 0 unused -:9\nMAP02 no player start\nfindings 4\n"),
+    (&["lint", "-", "--only", "thing-outside"],
+        b"room 0 0 256 256 0 128 FLOOR4_8 CEIL3_5 STARTAN3 160\nt = thing 500 500 0 2001 7\n",
+        b"MAP01 thing-outside 0 at (500,500) -:2 t\nfindings 1\n"),
 ];
 
 // Makes the project file and the script files.
@@ -130,6 +162,11 @@ fn draws_scripts(rt: HostRuntime) -> Result<(), Fail> {
         let (found, out, faults) = ran(&rt, words, input)?;
         let told = (words, found, out.as_slice(), faults.as_slice());
         same(&rt, &told, &(words, status, wanted, said));
+    }
+    for &(words, script, wanted) in ORIGINS {
+        let (found, out, faults) = ran(&rt, words, script)?;
+        let told = (words, found, out.as_slice(), faults.is_empty());
+        same(&rt, &told, &(words, 3, wanted, true));
     }
     for &(name, _) in SCRIPTS {
         fs::remove_file(&rt, name)?;

@@ -1,7 +1,7 @@
 //! Scripts drawn onto projects, whose commands are put together, over disks on which each call in turn fails.
 
 use crate::expect::same;
-use crate::sweeping::{GEOMETRY, Row, Way, failing, input, sweep_all};
+use crate::sweeping::{GEOMETRY, ROWS, Row, WITH_AN_AREA, Way, failing, input, sweep_all};
 use map_blocks::Stop;
 use map_script::{Names, script_lines};
 use run_canvas::ProjectCanvas;
@@ -66,8 +66,12 @@ fn wanted_stop(kept: u32, count: u32) -> Option<(usize, u16, usize)> {
     }
 }
 
-// Lines of a script that is drawn.
-struct Scripted;
+// Lines of a script that is drawn: those of vertices, and behind them a shape that adds some of the vertices, if any.
+#[derive(Drop)]
+struct Scripted {
+    shape: &'static [u8],
+    added: u32,
+}
 
 impl Way for Scripted {
     fn drawn<R: Abort>(
@@ -77,7 +81,8 @@ impl Way for Scripted {
         row: &Row,
         fault: (u64, u32),
     ) -> Result<(u32, FaultDisk<MemoryDisk>), Fail> {
-        let script = input(alloc, row.count)?;
+        let mut script = input(alloc, row.count.saturating_sub(self.added))?;
+        script.extend_from_slice(self.shape)?;
         let ended = fail_within(alloc, row.geometry(), &script, false, fault)?;
         same(
             rt,
@@ -90,8 +95,23 @@ impl Way for Scripted {
 
 #[test]
 fn puts_all_or_nothing(rt: HostRuntime) -> Result<(), Fail> {
-    sweep_all(&Scripted, &rt, rt.alloc())
+    let way = Scripted {
+        shape: b"",
+        added: 0,
+    };
+    sweep_all(&way, &rt, rt.alloc(), ROWS)
 }
+
+#[test]
+fn puts_all_of_a_shape_or_nothing(rt: HostRuntime) -> Result<(), Fail> {
+    let way = Scripted {
+        shape: AREA,
+        added: 4,
+    };
+    sweep_all(&way, &rt, rt.alloc(), WITH_AN_AREA)
+}
+
+const AREA: &[u8] = b"area 0 128 FLOOR4_8 CEIL3_5 STARTAN3 160 64 64 64 128 128 128 128 64\n";
 
 // A script, whether answers are written, the call that fails, the stop, and what was written.
 type Stopped = (
@@ -118,12 +138,18 @@ const SCRIPTS: &[Stopped] = &[
     (LOOPED, false, 9, Some((1, 30, 0)), b""),
     (LOOPED, false, 99, Some((2, 10, 1)), b""),
     (LOOPED, true, 13, Some((2, 30, 0)), b"2: ok 0\n"),
+    (LONG, false, 999, None, b""),
 ];
 
 const ASKING: &[u8] = b"let w 64\nvertex 0 $w\nvertex $w 0\nmaps\n\
     room 128 0 256 256 0 128 FLOOR4_8 CEIL3_5 STARTAN3 160\nvertex 7 7\nvertex 7 7\n";
 
 const TOLD: &[u8] = b"vertex 0 0\nvertex 1 0\n";
+
+// An area whose commands are longer than a journal.
+const LONG: &[u8] =
+    b"area 0 128 FLOOR4_8 CEIL3_5 STARTAN3 160 0 0 0 64 8 128 32 160 64 192 128 192 \
+    160 160 192 128 192 64 160 32 128 0 64 -32\n";
 
 const LOOPED: &[u8] = b"for i 0 2\nthing $i 0 0 1 7\nvertex 0 0\nend\n";
 

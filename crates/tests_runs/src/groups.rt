@@ -1,7 +1,7 @@
 //! Runs whose commands are put on the disk together, over disks on which each call in turn fails.
 
 use crate::expect::same;
-use crate::sweeping::{GEOMETRY, Row, Way, failing, input, sweep_all};
+use crate::sweeping::{GEOMETRY, ROWS, Row, Way, failing, input, sweep_all};
 use run_edit::run;
 use std::alloc::Global;
 use std::process::Abort;
@@ -79,7 +79,7 @@ impl Way for Running {
 
 #[test]
 fn puts_all_or_nothing(rt: HostRuntime) -> Result<(), Fail> {
-    sweep_all(&Running, &rt, rt.alloc())
+    sweep_all(&Running, &rt, rt.alloc(), ROWS)
 }
 
 // Lines of one turn, the call that fails, and the answers: a refused line keeps its refusal unless it stands behind one

@@ -62,6 +62,23 @@ const SCRIPTS: &[(&[u8], bool, &[u8], &[u8])] = &[
     (b"let w 64\nlet stone 0 128 FLOOR4_8 CEIL3_5 STARTAN3 160\narea $stone 0 0 0 2*$w 2*$w 2*$w 2*$w 0\n\
         change sector 0 LIGHT=$w-8\nwall = split $line($w,0) $w 0\nthing $w $w/2 90 1 7\ncount", true,
         b"3: ok 0\n4: ok 0\n5: ok 4\n6: ok 0\nvertices 5 sectors 1 sides 4 lines 5 things 1\n", b""),
+    (b"h = room 16 32 48 96 0 128 FLOOR4_8 CEIL3_5 STARTAN3 160\n\
+        change line $h.west TAG=1\nchange line $line(16,64) TAG=1\n\
+        change line $h.north TAG=1\nchange line $line(32,96) TAG=1\n\
+        change line $h.east TAG=1\nchange line $line(48,64) TAG=1\n\
+        change line $h.south TAG=1\nchange line $line(32,32) TAG=1\nchange line $h.north+1 TAG=2", true,
+        b"1: ok 0\n2: ok 0\n3: ok 0\n4: ok 1\n5: ok 1\n6: ok 2\n7: ok 2\n8: ok 3\n9: ok 3\n10: ok 2\n", b""),
+    (b"at 0 0 90\nh = room 100 8 140 24 0 128 FLOOR4_8 CEIL3_5 STARTAN3 160\n\
+        change line $h.west TAG=1\nend\nchange line $line(-24,120) TAG=1\n\
+        change line $h.north TAG=1\nchange line $line(-16,140) TAG=1\n\
+        change line $h.east TAG=1\nchange line $line(-8,120) TAG=1\n\
+        change line $h.south TAG=1\nchange line $line(-16,100) TAG=1", true,
+        b"2: ok 0\n3: ok 0\n5: ok 0\n6: ok 1\n7: ok 1\n8: ok 2\n9: ok 2\n10: ok 3\n11: ok 3\n", b""),
+    (b"h = room 0 0 64 64 0 128 FLOOR4_8 CEIL3_5 STARTAN3 160\nlet v $h.vertex+3\nlet ends 0 2\n\
+        line $h.vertex+2 1+$h.vertex 1 0 0 $h.side -\nline $v $h*2 1 0 0 ($h.side+1) -\n\
+        line $ends 1 0 0 $h.side $h.side+1\nvertex $h $h.line+100\n\
+        change line $h.north TAG=$h+7 RIGHT=$h.side+1", true,
+        b"1: ok 0\n4: ok 4\n5: ok 5\n6: ok 6\n7: ok 4\n8: ok 1\n", b""),
     (b"vertex 0 0\ncount\nsplt 2 256 160\nvertex 9 9\ncount\n", false,
         b"vertices 1 sectors 0 sides 0 lines 0 things 0\n",
         b"level.txt:3: splt 2 256 160: 1 NotACommand\n  perhaps this is meant: split LINE X Y\n"),
@@ -242,6 +259,25 @@ const REFUSED: &[(&[u8], &[u8])] = &[
     (b"drop line $line(16,05)", b"46 BadSum\n  $line(16,05): a part of the sum isn't a number\n"),
     (b"drop side $side(16,5)",
         b"21 NotAReference\n  a place is $vertex(X,Y), $line(X,Y), $sector(X,Y) or $thing(X,Y), with or without +N\n"),
+    (b"line $v $sector(20,5) 1 0 0 0 -", b"21 NotAReference\n  $sector(20,5) is a sector, and a vertex stands here\n"),
+    (b"h = room 64 0 80 9 0 128 FLOOR4_8 CEIL3_5 STARTAN3 160\nline $h 0 1 0 0 0 -",
+        b"21 NotAReference\n  $h is a sector, and a vertex stands here; $h.vertex is its first vertex\n"),
+    (b"h = room 64 0 80 9 0 128 FLOOR4_8 CEIL3_5 STARTAN3 160\nset-line 0 0 1 1 0 0 $h.north+1 -",
+        b"21 NotAReference\n  $h.north+1 is a line, and a side stands here\n"),
+    (b"define cell\nroom 64 0 80 9 0 128 FLOOR4_8 CEIL3_5 STARTAN3 160\nend\nc = cell\nmove-vertex $c 1 1",
+        b"21 NotAReference\n  $c is a sector, and a vertex stands here; $c.vertex is its first vertex\n"),
+    (b"split 1+$v 9 9", b"21 NotAReference\n  1+$v is a vertex, and a line stands here\n"),
+    (b"let w ($v-1)\nset-side $w 0 0 - - - 0", b"21 NotAReference\n  $w is a vertex, and a side stands here\n"),
+    (b"let plain 0 0 - - -\nside $plain $v", b"21 NotAReference\n  $v is a vertex, and a sector stands here\n"),
+    (b"drop thing $line(16,5)", b"21 NotAReference\n  $line(16,5) is a line, and a thing stands here\n"),
+    (b"set-sector $v 0 1 - - 0 0 0", b"21 NotAReference\n  $v is a vertex, and a sector stands here\n"),
+    (b"change line 0 LEFT=$v", b"21 NotAReference\n  $v is a vertex, and a side stands here\n"),
+    (b"change thing $v X=0", b"21 NotAReference\n  $v is a vertex, and a thing stands here\n"),
+    (b"door $v.vertex BIGDOOR2 DOORTRAK", b"21 NotAReference\n  $v.vertex is a vertex, and a sector stands here\n"),
+    (b"split $v.north 9 9",
+        b"23 NothingAdded\n  $v.north: north, east, south and west are walls of what a line NAME = room .. names\n"),
+    (b"define cell\nroom 64 0 80 9 0 128 FLOOR4_8 CEIL3_5 STARTAN3 160\nend\nc = cell\nsplit $c.east 9 9",
+        b"23 NothingAdded\n  $c.east: north, east, south and west are walls of what a line NAME = room .. names\n"),
     (b"drop-map MAP01", b"19 CurrentMap\n  the map is the current one\n"),
     (b"let x", b"1 NotACommand\n  this is its form: let NAME WORD ..\n"),
     (b"let line 3", b"20 NotAName\n  NAME is a letter, then letters, digits and _, and no word of the language\n"),

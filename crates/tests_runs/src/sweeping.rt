@@ -35,15 +35,22 @@ impl Row {
     }
 }
 
-// Groups of 1, 2, 100 and of a full journal. For a line that has no room in the journal a checkpoint comes first, and
-// then it is put alone.
+/// Groups of 1, 2, 100 and of a full journal. For a line that has no room in the journal a checkpoint comes first, and
+/// then it is put alone.
 #[rattlefmt::skip]
-const ROWS: &[Row] = &[
+pub const ROWS: &[Row] = &[
     Row { journal: 512, count: 1, kept: &[0, 1], parts: &[0, 1, 7, 999] },
     Row { journal: 512, count: 2, kept: &[0, 2], parts: &[0, 1, 20, 999] },
     Row { journal: 2048, count: 100, kept: &[0, 100], parts: &[0, 40, 1499] },
     Row { journal: 512, count: 34, kept: &[0, 34], parts: &[40] },
     Row { journal: 512, count: 100, kept: &[0, 34, 35, 68, 69, 100], parts: &[40] },
+];
+
+/// Twenty lines fill more than half of the journal, and then there is no room for an area with its four vertices: what
+/// waits is put, a checkpoint empties the journal, and the area is put as a whole.
+#[rattlefmt::skip]
+pub const WITH_AN_AREA: &[Row] = &[
+    Row { journal: 512, count: 24, kept: &[0, 20, 24], parts: &[0, 40, 999] },
 ];
 
 /// The lines that draw so many vertices.
@@ -129,9 +136,14 @@ fn sweep<W: Way, R: Abort>(
     Err(Fail::from("too many calls"))
 }
 
-/// The same with groups of 1, 2, 100 and of a full journal.
-pub fn sweep_all<W: Way, R: Abort>(way: &W, rt: &R, alloc: Global) -> Result<(), Fail> {
-    for row in ROWS {
+/// The same with each of these rows.
+pub fn sweep_all<W: Way, R: Abort>(
+    way: &W,
+    rt: &R,
+    alloc: Global,
+    rows: &[Row],
+) -> Result<(), Fail> {
+    for row in rows {
         for &part in row.parts {
             sweep(way, rt, alloc, row, part)?;
         }

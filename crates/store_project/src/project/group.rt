@@ -1,7 +1,8 @@
 //! Groups of commands: each is decided at once, and all of them go to the disk by one call.
-ghost use Rattle.std.specs.Prelude.{◌≡◌, ◌≤◌, ◌⊎◌, ◌↔◌, ◌+◌, ◌++◌, ◌∷◌, ℕ, List, [], false, true, All, map, length, IfOk, IfErr, IfSome, IsErrOf, OnErr, OnOk};
+ghost use Rattle.std.specs.Prelude.{◌≡◌, ◌≤◌, ◌⊎◌, ◌↔◌, ◌+◌, ◌-◌, ◌++◌, ◌∷◌, ℕ, List, [], false, true, All, map, length, nat_le, vec_items, IfOk, IfErr, IfSome, IsErrOf, OnErr, OnOk};
 ghost use Rattle.store_disk.specs.Moments.{LeavesOnly};
 ghost use Rattle.store_journal.specs.Groups.{IsGroupOf};
+ghost use Rattle.store_journal.specs.Records.{records_bytes};
 ghost use Rattle.store_journal.specs.State.{IsAbove};
 ghost use Rattle.map_tables.specs.Projects.{body_len, project_of};
 ghost use Rattle.map_commands.specs.ProjectCommands.{InProjectRange, project_spelling};
@@ -17,6 +18,9 @@ use std::marker::Model;
 use std::mem;
 use store_disk::Disk;
 use store_journal::{Group, JournalError};
+
+// How many bytes stand before a line in its record.
+const HEAD: usize = 5;
 
 /// Command lines that were accepted over the maps of a project, and the maps after them. Neither the project nor its
 /// disk has them yet.
@@ -59,6 +63,13 @@ impl ProjectGroup {
             lines,
             commands,
         })
+    }
+
+    /// How many bytes the records of its lines take.
+    pub fn records_len(&self) -> usize
+        ensures { result ≡ length self.now.bytes - 1 }
+    {
+        self.lines.len() - 1
     }
 
     // Adds a command and the line that it is.
@@ -118,6 +129,20 @@ fn replay(maps: &mut Maps, commands: &[ProjectCommand], cap: u32) -> bool
     true
 }
 
+// Whether so many bytes have room for the records of these lines.
+fn fit(lines: &[Vec<u8>], left: usize) -> bool
+    ensures { result ≡ nat_le (length (records_bytes (map vec_items lines.now))) left }
+{
+    let mut left = left;
+    for line in lines {
+        if left < HEAD || left - HEAD < line.len() {
+            return false;
+        }
+        left -= HEAD + line.len();
+    }
+    true
+}
+
 /// The same maps once more, by way of their body. Only lack of memory refuses it.
 pub fn copy_of(alloc: Global, maps: &Maps) -> Result<Maps, AllocError>
     ensures { IfOk result (λ copy. project_of copy ≡ project_of maps.now) }
@@ -133,7 +158,7 @@ pub fn copy_of(alloc: Global, maps: &Maps) -> Result<Maps, AllocError>
 
 impl<D: Disk> Project<D> {
     ghost use Rattle.std.specs.Prelude.{List};
-    ghost use Rattle.store_project.specs.Groups.{CanPut, EndsPut, EndsStage, IsGroupFor, Staged, staged_after};
+    ghost use Rattle.store_project.specs.Groups.{CanPut, EndsPut, EndsStage, IsGroupFor, LacksRoom, Staged, staged_after};
     ghost use Rattle.store_project.specs.Stands.{StandsForEither};
     ghost use Rattle.store_project.specs.States.{IsProjectKept};
 
@@ -163,6 +188,20 @@ impl<D: Disk> Project<D> {
     {
         match self.journal.room() {
             Some(room) => len <= room as usize && records <= room as usize - len,
+            None => false,
+        }
+    }
+
+    /// Whether the journal has room for the records of these lines, behind others that take so many bytes.
+    pub fn has_room_for(&self, behind: usize, lines: &[Vec<u8>]) -> bool
+        ensures full { result ≡ false → LacksRoom self.now behind (map vec_items lines.now) }
+        ensures room { result ≡ true → ¬ LacksRoom self.now behind (map vec_items lines.now) }
+    {
+        match self.journal.room() {
+            Some(room) => {
+                let left = room as usize + HEAD;
+                behind <= left && fit(lines, left - behind)
+            }
             None => false,
         }
     }
@@ -204,6 +243,7 @@ impl<D: Disk> Project<D> {
             (StandsForEither self.old.cap (project_of self.old.maps) (project_of group.old.maps)) }
         ensures kept { IsProjectKept D.Disk self.new }
         ensures cap { self.new.cap ≡ self.old.cap }
+        ensures journal { self.new.journal ≡ self.old.journal }
         ensures before { OnOk result (project_of group.new.maps ≡ project_of self.old.maps) }
         ensures lines { group.new.bytes ≡ group.old.bytes }
         ensures fits { OnOk result (body_len (project_of self.old.maps) ≤ self.old.cap) }
@@ -242,6 +282,7 @@ impl<D: Disk> Project<D> {
             (StandsForEither self.old.cap (project_of self.old.maps) (project_of group.maps)) }
         ensures kept { IsProjectKept D.Disk self.new }
         ensures cap { self.new.cap ≡ self.old.cap }
+        ensures journal { self.new.journal ≡ self.old.journal }
     {
         let mut group = group;
         self.exchange(&mut group)
@@ -262,6 +303,7 @@ impl<D: Disk> Project<D> {
             (StandsForEither self.old.cap (project_of self.old.maps) (project_of group.maps)) }
         ensures kept { IsProjectKept D.Disk self.new }
         ensures cap { self.new.cap ≡ self.old.cap }
+        ensures journal { self.new.journal ≡ self.old.journal }
         ensures begun { IfOk result (λ next. IfSome next (λ empty. CanPut self.new empty [])) }
     {
         let mut group = group;

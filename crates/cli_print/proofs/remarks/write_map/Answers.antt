@@ -1,4 +1,5 @@
 use Rattle.std.proofs.Common.{◌≡◌, ◌∙◌, ◌+◌, ap, arith, length}
+use Rattle.std.specs.Prelude.{List}
 use Rattle.lump_records.specs.Names.{name_text}
 use Rattle.lump_records.specs.declared.records.Name8.{Name8}
 use Rattle.cli_print.specs.Choosing.{wants_view}
@@ -12,7 +13,7 @@ returns-in-Ok g c =
     let wants = wants_view c.args.wants in
     let found = c.deref.result.now in
     let warned = c.deref-2.result.now in
-    let named : c.text.result.now ≡ name_text m.name = c.text.ensures.text ∙ ap (λ (n : Name8). name_text n) c.name-name.ensures in
+    let named : name_text c.name.result ≡ name_text m.name = ap (λ (n : Name8). name_text n) c.name.ensures in
     let is : found ≡ wanted_findings wants m = c.deref.ensures.value ∙ c.in_ok-found.ensures.found in
     let are : warned ≡ wanted_warnings wants m = c.deref-2.ensures.value ∙ c.in_ok-warned.ensures.found in
     let sum : c.in_ok-count.count ≡ c.args.before + length found + length warned =
@@ -27,5 +28,5 @@ returns-in-Ok g c =
       c.in_ok-found.found.ok.0,
       c.in_ok-warned.warned.ok.0,
     ) in
-    map_written wants m c.text.result.now found warned c.args.before c.in_ok-count.count (g.W.Write.contents c.args.writer.now)
-    (g.W.Write.contents c.write_both.new.writer) named is are sum c.in-Ok.ensures
+    map_written (g.O.Origin.origin c.args.origin.now) wants m (name_text c.name.result) found warned c.args.before c.in_ok-count.count c.deref-3.result.now
+    (g.W.Write.contents c.args.writer.now) (g.W.Write.contents c.write_all.new.self) named is are sum (c.deref-3.ensures.value ∙ c.in_ok-text.ensures.told) c.in-Ok.ensures.bytes

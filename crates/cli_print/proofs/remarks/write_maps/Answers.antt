@@ -15,7 +15,7 @@ pub loop-n-preserved : goal.loop-n-preserved
 loop-n-preserved g c =
     let ms : List Tables = (project_of c.args.maps.now).maps in
     let within : c.loop-n.n < length ms = omega (arith, c.len-n-end.ensures.value, c.loop-n-test.true) in
-    maps_more (wants_view c.args.wants) ms c.loop-n.n c.loop-n.count c.in-Ok.sum (g.W.Write.contents c.args.writer.now) (g.W.Write.contents c.loop-n.writer)
+    maps_more (g.O.Origin.origin c.args.origin.now) (wants_view c.args.wants) ms c.loop-n.n c.loop-n.count c.in-Ok.sum (g.W.Write.contents c.args.writer.now) (g.W.Write.contents c.loop-n.writer)
     (g.W.Write.contents c.write_nth.new.writer) within c.loop-n.invariant
     (c.in-Ok.ensures (get_or ms c.loop-n.n empty_tables) (slice_get-get_or ms c.loop-n.n empty_tables within))
 
@@ -23,7 +23,7 @@ pub returns-in-Err : goal.returns-in-Err
 returns-in-Err g c =
     let ms : List Tables = (project_of c.args.maps.now).maps in
     let within : c.loop-n.n < length ms = omega (arith, c.len-n-end.ensures.value, c.loop-n-test.true) in
-    maps_stopped (wants_view c.args.wants) ms c.loop-n.n c.loop-n.count c.in-Err.error (g.W.Write.contents c.args.writer.now) (g.W.Write.contents c.loop-n.writer)
+    maps_stopped (g.O.Origin.origin c.args.origin.now) (wants_view c.args.wants) ms c.loop-n.n c.loop-n.count c.in-Err.error (g.W.Write.contents c.args.writer.now) (g.W.Write.contents c.loop-n.writer)
     (g.W.Write.contents c.write_nth.new.writer) within c.loop-n.invariant
     (c.in-Err.ensures (get_or ms c.loop-n.n empty_tables) (slice_get-get_or ms c.loop-n.n empty_tables within))
 
@@ -31,6 +31,6 @@ pub returns : goal.returns
 returns g c =
     let ms : List Tables = (project_of c.args.maps.now).maps in
     let whole : length ms ≤ c.loop-n.n = omega (arith, c.len-n-end.ensures.value, c.loop-n-test.false) in
-    let said = subst (λ (ks : List Tables). HasSaid (wants_view c.args.wants) ks c.loop-n.count (g.W.Write.contents c.args.writer.now) (g.W.Write.contents c.loop-n.writer))
+    let said = subst (λ (ks : List Tables). HasSaid (g.O.Origin.origin c.args.origin.now) (wants_view c.args.wants) ks c.loop-n.count (g.W.Write.contents c.args.writer.now) (g.W.Write.contents c.loop-n.writer))
     (take_all c.loop-n.n ms whole) c.loop-n.invariant in
     (omega (arith, said.0), said.1)

@@ -7,4 +7,4 @@ use Rattle.cli_print.proofs.remarks.write_maps.Given as goal
 -- this has been said of the maps so far, and counted
 abbrev pub invariant-loop-n : goal.invariant-loop-n
 invariant-loop-n g l =
-    HasSaid (wants_view l.wants) (take l.n (project_of l.maps).maps) l.count (g.W.Write.contents l.fn.writer) (g.W.Write.contents l.writer)
+    HasSaid (g.O.Origin.origin l.origin) (wants_view l.wants) (take l.n (project_of l.maps).maps) l.count (g.W.Write.contents l.fn.writer) (g.W.Write.contents l.writer)

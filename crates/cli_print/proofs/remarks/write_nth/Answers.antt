@@ -6,7 +6,7 @@ use Rattle.cli_print.proofs.remarks.write_nth.Goals as goal
 
 pub returns-in-Some : goal.returns-in-Some
 returns-in-Some g c =
-    remarks_told (wants_view c.args.wants) c.write_map.result (slice_get (project_of c.args.maps.now).maps c.args.n) c.args.before c.in-Some.map.now.tables
+    remarks_told (g.O.Origin.origin c.args.origin.now) (wants_view c.args.wants) c.write_map.result (slice_get (project_of c.args.maps.now).maps c.args.n) c.args.before c.in-Some.map.now.tables
     (g.W.Write.contents c.args.writer.now) (g.W.Write.contents c.write_map.new.writer) c.in-Some.ensures c.write_map.ensures
 
 pub returns-in-None : goal.returns-in-None

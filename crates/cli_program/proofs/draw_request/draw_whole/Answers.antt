@@ -1,14 +1,9 @@
-use Rattle.std.proofs.Common.{Ok, ap, arith}
-use Rattle.cli_program.proofs.Scripted.{drawn_whole, stopped_whole}
+use Rattle.std.proofs.Common.{◌∙◌, sym}
+use Rattle.cli_program.proofs.Scripted.{start_fits}
 use Rattle.cli_program.proofs.draw_request.draw_whole.Goals as goal
 
-pub returns-in-Ok-clause-drawn : goal.returns-in-Ok-clause-drawn
-returns-in-Ok-clause-drawn g c = (
-  drawn_whole c.args.lines.now (Ok c.in-Ok.status) c.args.draft.now c.draw_onto.new.canvas c.in-Ok.ensures.drawn (ap Ok c.if-status-eq-DONE.true),
-  c.in-Ok.ensures.quiet (ap Ok c.if-status-eq-DONE.true),
-)
+pub draw_whole_over-requires-clause-fits : goal.draw_whole_over-requires-clause-fits
+draw_whole_over-requires-clause-fits g c = start_fits _ _ c.new-maps.ensures.project c.requires.longest
 
-pub returns-in-Ok-2-clause-drawn : goal.returns-in-Ok-2-clause-drawn
-returns-in-Ok-2-clause-drawn g c =
-    stopped_whole c.args.lines.now c.args.files.now c.in-Ok.status c.args.draft.now (g.F.Write.contents c.args.faults.now) (g.F.Write.contents c.draw_onto.new.faults)
-    c.in-Ok.ensures.told (λ zero. omega (arith, zero, c.if-status-eq-DONE.false))
+pub draw_whole_over-requires-clause-copy : goal.draw_whole_over-requires-clause-copy
+draw_whole_over-requires-clause-copy g c = c.requires.empty ∙ sym c.new-maps.ensures.project

@@ -1,8 +1,12 @@
+use Rattle.std.proofs.Common.{refl}
 use Rattle.cli_program.proofs.Scripted.{over_drawn, over_none}
+use Rattle.cli_program.specs.ScriptCanvases.{maps_alone}
 use Rattle.cli_program.proofs.over_script.dump_script.Goals as goal
 
-pub returns-in-Some-clause-dumped : goal.returns-in-Some-clause-dumped
-returns-in-Some-clause-dumped g c = over_none _ _ _ _ _ _ _ _ c.in-Some.ensures.maps
+pub returns-in-Err-clause-dumped : goal.returns-in-Err-clause-dumped
+returns-in-Err-clause-dumped g c = over_none maps_alone _ _ _ _ _ _ _ _ _ c.new-draft.ensures c.in-Err.ensures.none
 
 pub returns-clause-dumped : goal.returns-clause-dumped
-returns-clause-dumped g c = over_drawn _ _ _ _ _ _ _ _ _ c.maps.result.now _ c.maps.ensures c.in-None.ensures.maps c.tell_lines_of.ensures.told
+returns-clause-dumped g c =
+    over_drawn maps_alone _ c.in-Ok.whole.lines c.in-Ok.whole.files c.new-draft.result c.draw_maps.new.canvas _ _ _ _ _ _ _ _ c.maps.result.now _ c.new-draft.ensures c.in-Ok.ensures.whole c.in-Ok.ensures.drawn c.in-Ok.ensures.quiet c.maps.ensures refl
+    c.tell_lines_of.ensures.told

@@ -36,14 +36,14 @@ loop-count-preserved g c =
     let under : c.loop-count._count < line_limit c.args.lines.now = omega (arith, limit, c.loop-count-test.true) in
     let lost = at_first_place g.C.Canvas c.args.is_verbose shapes start (line_limit c.args.lines.now) (length c.args.lines.now) c.first_place-first.result c.loop-count.first
     c.in-Some.place c.holds_earlier.result new.sketch.written new.sketch.canvas c.first_place-first.ensures c.holds_earlier.ensures
-    (next_lost g.C.Canvas g.met.C.Canvas.loss_since g.met.C.Canvas.loss_within g.met.C.Canvas.stays_alone g.met.C.Canvas.told_all g.met.C.Canvas.loss_told
+    (next_lost g.C.Canvas g.met.C.Canvas.loss_since g.met.C.Canvas.loss_within g.met.C.Canvas.stays_alone g.met.C.Canvas.room_made g.met.C.Canvas.room_refused g.met.C.Canvas.told_all g.met.C.Canvas.loss_told
     g.met.C.Canvas.begun g.met.C.Canvas.lost_settled g.met.C.Canvas.settled_again c.args.is_verbose shapes start
     (line_limit c.args.lines.now) (length c.args.lines.now) c.loop-count._count c.loop-count.first c.in-Some.place mid new c.begin_line.new.self c.in-Ok.refusal
     c.loop-count.invariant.reached under c.in-Some.ensures.within c.in-Some.ensures.place begins c.in-Ok.ensures.advanced c.loop-count.invariant.lost) in
     let advanced = rw c.in_default-refusal.is at c.in-Ok.ensures.advanced in
     let within = rw c.in_default-refusal.is at c.in-Ok.ensures.within in
     record {
-      reached = ComesTo-more g.C.Canvas c.args.is_verbose shapes start mid new c.loop-count._count c.loop-count.invariant.reached (c.begin_line.new.self, begins, advanced);
+      reached = ComesTo-more g.C.Canvas c.args.is_verbose shapes start mid new c.loop-count._count c.loop-count.invariant.reached (c.in-Some.place, c.in-Some.ensures.place, c.begin_line.new.self, begins, advanced);
       within = within;
       lost = lost;
     }
@@ -84,8 +84,8 @@ returns-in-Err-clause-drawn g c =
     let mid = progress_of all c.loop-count.canvas (scope_of c.loop-count.names) (g.W.Write.contents c.loop-count.writer) c.loop-count.reading in
     let begins = c.if-not-begin_line.ensures.begun refl in (
       c.in-Err.ensures.advanced.0,
-      cut_off_at g.C.Canvas c.args.is_verbose shapes start mid c.begin_line.new.self c.advance.new.canvas c.cut_off.new.canvas c.loop-count._count c.loop-count.invariant.reached
-          begins c.in-Err.ensures.advanced.1 c.cut_off.ensures,
+      cut_off_at g.C.Canvas c.args.is_verbose shapes start mid c.begin_line.new.self c.advance.new.canvas c.cut_off.new.canvas c.loop-count._count c.in-Some.place
+          c.loop-count.invariant.reached c.in-Some.ensures.place begins c.in-Err.ensures.advanced.1 c.cut_off.ensures,
     )
 
 pub returns-then-not-begin_line-clause-drawn : goal.returns-then-not-begin_line-clause-drawn
@@ -109,9 +109,9 @@ returns-then-has_lost-clause-drawn g c =
     let new = progress_of all c.advance.new.canvas (scope_of c.advance.new.names) (g.W.Write.contents c.advance.new.writer) c.advance.new.reading in
     let begins = c.if-not-begin_line.ensures.begun refl in
     let advanced = rw c.in-Some-refusal.is at c.in-Ok.ensures.advanced in
-    let told = line_lost g.C.Canvas g.met.C.Canvas.loss_since g.met.C.Canvas.loss_within g.met.C.Canvas.stays_alone g.met.C.Canvas.told_all g.met.C.Canvas.loss_told
+    let told = line_lost g.C.Canvas g.met.C.Canvas.loss_since g.met.C.Canvas.loss_within g.met.C.Canvas.stays_alone g.met.C.Canvas.room_made g.met.C.Canvas.room_refused g.met.C.Canvas.told_all g.met.C.Canvas.loss_told
     g.met.C.Canvas.begun g.met.C.Canvas.lost_settled g.met.C.Canvas.settled_again c.args.is_verbose shapes start
-    (line_limit c.args.lines.now) (length c.args.lines.now) c.loop-count.first mid new c.begin_line.new.self c.in-Some-refusal.code begins advanced
+    (line_limit c.args.lines.now) (length c.args.lines.now) c.loop-count.first c.in-Some.place mid new c.begin_line.new.self c.in-Some-refusal.code begins advanced
     (sym c.has_lost.ensures ∙ c.if-has_lost.true) c.loop-count.invariant.lost in
     told.1 c.lost_from-then-has_lost.result c.lost_from-then-has_lost.ensures
 
@@ -125,9 +125,9 @@ returns-then-has_lost-clause-within g c =
     let new = progress_of all c.advance.new.canvas (scope_of c.advance.new.names) (g.W.Write.contents c.advance.new.writer) c.advance.new.reading in
     let begins = c.if-not-begin_line.ensures.begun refl in
     let advanced = rw c.in-Some-refusal.is at c.in-Ok.ensures.advanced in
-    let told = line_lost g.C.Canvas g.met.C.Canvas.loss_since g.met.C.Canvas.loss_within g.met.C.Canvas.stays_alone g.met.C.Canvas.told_all g.met.C.Canvas.loss_told
+    let told = line_lost g.C.Canvas g.met.C.Canvas.loss_since g.met.C.Canvas.loss_within g.met.C.Canvas.stays_alone g.met.C.Canvas.room_made g.met.C.Canvas.room_refused g.met.C.Canvas.told_all g.met.C.Canvas.loss_told
     g.met.C.Canvas.begun g.met.C.Canvas.lost_settled g.met.C.Canvas.settled_again c.args.is_verbose shapes start
-    (line_limit c.args.lines.now) (length c.args.lines.now) c.loop-count.first mid new c.begin_line.new.self c.in-Some-refusal.code begins advanced
+    (line_limit c.args.lines.now) (length c.args.lines.now) c.loop-count.first c.in-Some.place mid new c.begin_line.new.self c.in-Some-refusal.code begins advanced
     (sym c.has_lost.ensures ∙ c.if-has_lost.true) c.loop-count.invariant.lost in
     alone_within (length c.args.lines.now) c.loop-count.first 30 c.lost_from-then-has_lost.result c.lost_from-then-has_lost.ensures told.0
 
@@ -143,7 +143,7 @@ returns-in-Some-refusal-clause-drawn g c =
     let under : c.loop-count._count < line_limit c.args.lines.now = omega (arith, limit, c.loop-count-test.true) in
     let lost = at_first_place g.C.Canvas c.args.is_verbose shapes start (line_limit c.args.lines.now) (length c.args.lines.now) c.first_place-first.result c.loop-count.first
     c.in-Some.place c.holds_earlier.result new.sketch.written new.sketch.canvas c.first_place-first.ensures c.holds_earlier.ensures
-    (next_lost g.C.Canvas g.met.C.Canvas.loss_since g.met.C.Canvas.loss_within g.met.C.Canvas.stays_alone g.met.C.Canvas.told_all g.met.C.Canvas.loss_told
+    (next_lost g.C.Canvas g.met.C.Canvas.loss_since g.met.C.Canvas.loss_within g.met.C.Canvas.stays_alone g.met.C.Canvas.room_made g.met.C.Canvas.room_refused g.met.C.Canvas.told_all g.met.C.Canvas.loss_told
     g.met.C.Canvas.begun g.met.C.Canvas.lost_settled g.met.C.Canvas.settled_again c.args.is_verbose shapes start
     (line_limit c.args.lines.now) (length c.args.lines.now) c.loop-count._count c.loop-count.first c.in-Some.place mid new c.begin_line.new.self c.in-Ok.refusal
     c.loop-count.invariant.reached under c.in-Some.ensures.within c.in-Some.ensures.place begins c.in-Ok.ensures.advanced c.loop-count.invariant.lost) in
@@ -154,7 +154,7 @@ returns-in-Some-refusal-clause-drawn g c =
     finished g.C.Canvas c.args.is_verbose shapes start (line_limit c.args.lines.now) (length c.args.lines.now) c.first_place-first.result new.sketch.written
     c.advance.new.canvas c.finish-in-Some-refusal.new.canvas (Some stop) c.finish-in-Some-refusal.result
     (λ settled. stopped_there g.C.Canvas c.args.is_verbose shapes start (line_limit c.args.lines.now) c.loop-count._count c.in-Some.place code mid new _ stop
-    c.finish-in-Some-refusal.new.canvas new.sketch.written c.loop-count.invariant.reached c.in-Some.ensures.place (inl (under, (c.begin_line.new.self, begins, advanced)))
+    c.finish-in-Some-refusal.new.canvas new.sketch.written c.loop-count.invariant.reached c.in-Some.ensures.place (inl (under, (c.in-Some.place, c.in-Some.ensures.place, c.begin_line.new.self, begins, advanced)))
     c.stop_at-stop.ensures (open_are all c.loop-count.reading c.advance.new.reading code told) settled refl)
     lost c.finish-in-Some-refusal.ensures
 
@@ -170,7 +170,7 @@ returns-in-Some-refusal-clause-within g c =
     let under : c.loop-count._count < line_limit c.args.lines.now = omega (arith, limit, c.loop-count-test.true) in
     let lost = at_first_place g.C.Canvas c.args.is_verbose shapes start (line_limit c.args.lines.now) (length c.args.lines.now) c.first_place-first.result c.loop-count.first
     c.in-Some.place c.holds_earlier.result new.sketch.written new.sketch.canvas c.first_place-first.ensures c.holds_earlier.ensures
-    (next_lost g.C.Canvas g.met.C.Canvas.loss_since g.met.C.Canvas.loss_within g.met.C.Canvas.stays_alone g.met.C.Canvas.told_all g.met.C.Canvas.loss_told
+    (next_lost g.C.Canvas g.met.C.Canvas.loss_since g.met.C.Canvas.loss_within g.met.C.Canvas.stays_alone g.met.C.Canvas.room_made g.met.C.Canvas.room_refused g.met.C.Canvas.told_all g.met.C.Canvas.loss_told
     g.met.C.Canvas.begun g.met.C.Canvas.lost_settled g.met.C.Canvas.settled_again c.args.is_verbose shapes start
     (line_limit c.args.lines.now) (length c.args.lines.now) c.loop-count._count c.loop-count.first c.in-Some.place mid new c.begin_line.new.self c.in-Ok.refusal
     c.loop-count.invariant.reached under c.in-Some.ensures.within c.in-Some.ensures.place begins c.in-Ok.ensures.advanced c.loop-count.invariant.lost) in

@@ -11,18 +11,18 @@ returns-in_default-clause-ok c =
     let frame = c.args.self.now in
     let name : List ℕ = c.args.name.now in
     let others : List (List ℕ × Meant) = map known_entry frame.table.entries in
-    let m : Meaning = record { words = c.in_ok-words.words; firsts = c.args.firsts } in
+    let m : Meaning = record { words = c.in_ok-words.words; referent = c.args.referent; firsts = c.args.firsts } in
     let (now, some) = c.in_default.ensures in
     layer_is _ _ _ _
     (ap (λ ns. ns ++ others) now ∙ sym (given_front frame.held others name (meant m) some)
-    ∙ ap (λ (w : List ℕ). with_meaning (known_in frame) name (record { words = w; firsts = c.args.firsts })) c.in_ok-words.ensures.ok)
+    ∙ ap (λ (w : List ℕ). with_meaning (known_in frame) name (record { words = w; referent = c.args.referent; firsts = c.args.firsts })) c.in_ok-words.ensures.ok)
     (ap length now ∙ given_long frame.held name (meant m) some)
 
 pub returns-in-Ok-clause-ok : goal.returns-in-Ok-clause-ok
 returns-in-Ok-clause-ok c =
     let frame = c.args.self.now in
     let others : List (List ℕ × Meant) = map known_entry frame.table.entries in
-    let m : Meaning = record { words = c.in_ok-words.words; firsts = c.args.firsts } in
+    let m : Meaning = record { words = c.in_ok-words.words; referent = c.args.referent; firsts = c.args.firsts } in
     let (same, held, none) = c.in-Some.ensures in
     let key : c.in_ok-key.key.items ≡ c.args.name.now = c.in_ok-key.ensures.ok in
     let words : c.in_ok-words.words.items ≡ c.args.words.now = c.in_ok-words.ensures.ok in
@@ -31,5 +31,5 @@ returns-in-Ok-clause-ok c =
     ∙ ap (λ ns. frame.held ++ ns) (put_in frame.table.entries c.in_ok-key.key c.in-Some.meaning)
     ∙ ap₂ (λ (n : List ℕ) (w : Meaning). frame.held ++ with_meaning others n (meant w)) key same
     ∙ sym (given_behind frame.held others c.args.name.now (meant m) none)
-    ∙ ap (λ (w : List ℕ). with_meaning (known_in frame) c.args.name.now (record { words = w; firsts = c.args.firsts })) words)
+    ∙ ap (λ (w : List ℕ). with_meaning (known_in frame) c.args.name.now (record { words = w; referent = c.args.referent; firsts = c.args.firsts })) words)
     (ap length held)

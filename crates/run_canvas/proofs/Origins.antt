@@ -1,0 +1,290 @@
+-- Each item of the maps has an origin, also after a command.
+use Rattle.std.proofs.Common.{◌≡◌, ◌∙◌, ℕ, zero, suc, ◌+◌, ◌<◌, ◌≤◌, Bool, true, false, List, [], ◌∷◌, ◌++◌, length, map, get_or, take, drop, refl, sym, ap, ap₂, arith}
+use Rattle.std.specs.Prelude.{◌-◌, if◌then◌else◌, is_ok, IsOk, IfErr, IfOk, MatchResult, Result, Ok, Err, Vec, remove, replicate, slice_set, vec_capacity, vec_len}
+use Rattle.std.specs.Global.{Global}
+use Rattle.std.proofs.lemmas.List.{append-nil, drop-map, drop_all, get_or-map, length-append, length-map, length-replicate, length-set, map-append, map-set, set-get_or, take-map, take_all}
+use Rattle.map_commands.specs.ProjectStep.{project_after}
+use Rattle.map_commands.specs.Rooms.{corners, room_sector, room_sides, walls}
+use Rattle.map_commands.specs.Splits.{cut_off, cut_short, line_or_some}
+use Rattle.map_commands.specs.Step.{after, need_of}
+use Rattle.map_commands.specs.declared.command.Command.{Command}
+use Rattle.map_commands.specs.declared.command.Command.TheVariants.{Name, Edit, Room, Split}
+use Rattle.map_commands.specs.declared.project.command.ProjectCommand.{ProjectCommand}
+use Rattle.map_commands.specs.declared.project.command.ProjectCommand.TheVariants.{Current, SelectMap, DropMap}
+use Rattle.map_tables.specs.Edits.{line_without_side, line_without_vertex, side_without_sector, with_name, without}
+use Rattle.map_tables.specs.Projects.{ProjectMaps, empty_project, has_map, map_number_of}
+use Rattle.map_commands.specs.ProjectCommands.{InProjectRange, project_spelling}
+use Rattle.map_commands.specs.declared.error.CommandError.{CommandError}
+use Rattle.run_edit.specs.Answers.{outcome_of}
+use Rattle.map_tables.specs.Tables.{Tables, count_of, empty_tables}
+use Rattle.map_tables.specs.declared.edit.Edit.TheVariants.{Add, Set, Drop}
+use Rattle.map_tables.specs.declared.edit.Item.TheVariants as item
+use Rattle.map_tables.specs.declared.edit.Need.{Need}
+use Rattle.map_tables.specs.declared.kind.Kind.{Kind}
+use Rattle.map_tables.specs.declared.kind.Kind.TheVariants as kind
+use Rattle.run_canvas.specs.OriginFields.{item_origins}
+use Rattle.run_canvas.specs.Origins.{HasEachOrigin, ItemOrigins, NotesOrigins, OriginMaps, all_origins_after, no_origins, origin_count, origins_after, origins_by, with_origins, without_origin}
+use Rattle.run_canvas.specs.declared.map_origins.MapOrigins.{MapOrigins}
+
+-- ---- Lists
+
+-- nothing is removed past the last
+pub remove_past : {X : Type 0} (xs : List X) (n : ℕ) → length xs ≤ n → remove xs n ≡ xs
+remove_past xs n past = ap₂ (λ (a b : List _). a ++ b) (take_all n xs past) (drop_all (suc n) xs (omega arith)) ∙ append-nil xs
+
+pub map-remove : {X Y : Type 0} (f : X → Y) (xs : List X) (n : ℕ) → map f (remove xs n) ≡ remove (map f xs) n
+map-remove f xs n = map-append f (take n xs) (drop (suc n) xs) ∙ ap₂ (λ (a b : List _). a ++ b) (sym (take-map f n xs)) (sym (drop-map f (suc n) xs))
+
+length-remove_same : {X Y : Type 0} (xs : List X) (ys : List Y) (n : ℕ) → length xs ≡ length ys → length (remove xs n) ≡ length (remove ys n)
+length-remove_same {X} {Y} [] [] n same = ap (length {A = X}) (remove_past [] n (omega arith)) ∙ sym (ap (length {A = Y}) (remove_past [] n (omega arith)))
+length-remove_same [] (y ∷ ys) n same = absurd (omega (arith, same))
+length-remove_same (x ∷ xs) [] n same = absurd (omega (arith, same))
+length-remove_same (x ∷ xs) (y ∷ ys) zero same = omega (arith, same)
+length-remove_same (x ∷ xs) (y ∷ ys) (suc n) same = ap suc (length-remove_same xs ys n (omega (arith, same)))
+
+get_or_map : {X Y : Type 0} (f : X → Y) (xs : List X) (n : ℕ) (d : X) → get_or (map f xs) n (f d) ≡ f (get_or xs n d)
+get_or_map f [] n d = refl
+get_or_map f (x ∷ xs) zero d = refl
+get_or_map f (x ∷ xs) (suc n) d = get_or_map f xs n d
+
+-- as many more, for which there is room
+pub put_is : {E : Type 0} (list : Vec ℕ Global) (new : List ℕ) (n count place : ℕ) (result : Result (Unit {0}) E) → n ≡ vec_len list → vec_len list + count ≤ vec_capacity list
+    → new ≡ (if is_ok result then take (n + count) list.items ++ replicate ((n + count) - vec_len list) place else list.items)
+    → (n + count ≤ vec_capacity list → IsOk result) → new ≡ list.items ++ replicate count place
+put_is list new n count place (Ok u) is room put succeeds =
+    put ∙ ap₂ (λ (a : List ℕ) (m : ℕ). a ++ replicate m place) (take_all (n + count) list.items (omega (arith, is, list.ok.0))) (omega (arith, is))
+put_is list new n count place (Err e) is room put succeeds = cc (succeeds (omega (arith, is)))
+
+-- ---- The items of a map
+
+abbrev need_at : Need → Kind → ℕ
+need_at need kind.Vertex = need.vertices
+need_at need kind.Sector = need.sectors
+need_at need kind.Side = need.sides
+need_at need kind.Line = need.lines
+need_at need kind.Thing = need.things
+
+more : (xs : List ℕ) (n place : ℕ) → length (xs ++ replicate n place) ≡ length xs + n
+more xs n place = length-append xs (replicate n place) ∙ ap (λ (m : ℕ). length xs + m) (length-replicate n place)
+
+with_each : (o : ItemOrigins) (need : Need) (place : ℕ) (k : Kind) → origin_count (with_origins o need place) k ≡ origin_count o k + need_at need k
+with_each o need place kind.Vertex = more o.vertices need.vertices place
+with_each o need place kind.Sector = more o.sectors need.sectors place
+with_each o need place kind.Side = more o.sides need.sides place
+with_each o need place kind.Line = more o.lines need.lines place
+with_each o need place kind.Thing = more o.things need.things place
+
+named_each : (m : Tables) (name : _) (k : Kind) → count_of (with_name m name) k ≡ count_of m k
+named_each m name kind.Vertex = refl
+named_each m name kind.Sector = refl
+named_each m name kind.Side = refl
+named_each m name kind.Line = refl
+named_each m name kind.Thing = refl
+
+-- a command that removes nothing
+abbrev counts : (m : Tables) (c : Command) (k : Kind) → Type 0
+counts m c k = count_of (after m c) k ≡ count_of m k + need_at (need_of c) k
+
+name_each : (m : Tables) (name : _) (k : Kind) → counts m (Name name) k
+name_each m name kind.Vertex = omega arith
+name_each m name kind.Sector = omega arith
+name_each m name kind.Side = omega arith
+name_each m name kind.Line = omega arith
+name_each m name kind.Thing = omega arith
+
+add_each : (m : Tables) (i : _) (k : Kind) → counts m (Edit (Add i)) k
+add_each m (item.Vertex x) kind.Vertex = length-append m.vertices (x ∷ [])
+add_each m (item.Vertex x) kind.Sector = omega arith
+add_each m (item.Vertex x) kind.Side = omega arith
+add_each m (item.Vertex x) kind.Line = omega arith
+add_each m (item.Vertex x) kind.Thing = omega arith
+add_each m (item.Sector x) kind.Vertex = omega arith
+add_each m (item.Sector x) kind.Sector = length-append m.sectors (x ∷ [])
+add_each m (item.Sector x) kind.Side = omega arith
+add_each m (item.Sector x) kind.Line = omega arith
+add_each m (item.Sector x) kind.Thing = omega arith
+add_each m (item.Side x) kind.Vertex = omega arith
+add_each m (item.Side x) kind.Sector = omega arith
+add_each m (item.Side x) kind.Side = length-append m.sides (x ∷ [])
+add_each m (item.Side x) kind.Line = omega arith
+add_each m (item.Side x) kind.Thing = omega arith
+add_each m (item.Line x) kind.Vertex = omega arith
+add_each m (item.Line x) kind.Sector = omega arith
+add_each m (item.Line x) kind.Side = omega arith
+add_each m (item.Line x) kind.Line = length-append m.lines (x ∷ [])
+add_each m (item.Line x) kind.Thing = omega arith
+add_each m (item.Thing x) kind.Vertex = omega arith
+add_each m (item.Thing x) kind.Sector = omega arith
+add_each m (item.Thing x) kind.Side = omega arith
+add_each m (item.Thing x) kind.Line = omega arith
+add_each m (item.Thing x) kind.Thing = length-append m.things (x ∷ [])
+
+set_each : (m : Tables) (n : ℕ) (i : _) (k : Kind) → counts m (Edit (Set n i)) k
+set_each m n (item.Vertex x) kind.Vertex = let same = length-set m.vertices n x in omega (arith, same)
+set_each m n (item.Vertex x) kind.Sector = omega arith
+set_each m n (item.Vertex x) kind.Side = omega arith
+set_each m n (item.Vertex x) kind.Line = omega arith
+set_each m n (item.Vertex x) kind.Thing = omega arith
+set_each m n (item.Sector x) kind.Vertex = omega arith
+set_each m n (item.Sector x) kind.Sector = let same = length-set m.sectors n x in omega (arith, same)
+set_each m n (item.Sector x) kind.Side = omega arith
+set_each m n (item.Sector x) kind.Line = omega arith
+set_each m n (item.Sector x) kind.Thing = omega arith
+set_each m n (item.Side x) kind.Vertex = omega arith
+set_each m n (item.Side x) kind.Sector = omega arith
+set_each m n (item.Side x) kind.Side = let same = length-set m.sides n x in omega (arith, same)
+set_each m n (item.Side x) kind.Line = omega arith
+set_each m n (item.Side x) kind.Thing = omega arith
+set_each m n (item.Line x) kind.Vertex = omega arith
+set_each m n (item.Line x) kind.Sector = omega arith
+set_each m n (item.Line x) kind.Side = omega arith
+set_each m n (item.Line x) kind.Line = let same = length-set m.lines n x in omega (arith, same)
+set_each m n (item.Line x) kind.Thing = omega arith
+set_each m n (item.Thing x) kind.Vertex = omega arith
+set_each m n (item.Thing x) kind.Sector = omega arith
+set_each m n (item.Thing x) kind.Side = omega arith
+set_each m n (item.Thing x) kind.Line = omega arith
+set_each m n (item.Thing x) kind.Thing = let same = length-set m.things n x in omega (arith, same)
+
+room_each : (m : Tables) (r : _) (k : Kind) → counts m (Room r) k
+room_each m r kind.Vertex = length-append m.vertices (corners r)
+room_each m r kind.Sector = length-append m.sectors (room_sector r ∷ [])
+room_each m r kind.Side = length-append m.sides (room_sides r (length m.sectors))
+room_each m r kind.Line = length-append m.lines (walls (length m.vertices) (length m.sides))
+room_each m r kind.Thing = omega arith
+
+split_each : (m : Tables) (s : _) (k : Kind) → counts m (Split s) k
+split_each m s kind.Vertex = length-append m.vertices (s.at ∷ [])
+split_each m s kind.Sector = omega arith
+split_each m s kind.Side = omega arith
+split_each m s kind.Line =
+    let line = line_or_some m.lines s.line in
+    let vertex = length m.vertices in
+    length-append (slice_set m.lines s.line (cut_short line vertex)) (cut_off line vertex ∷ []) ∙ ap (λ (n : ℕ). n + 1) (length-set m.lines s.line (cut_short line vertex))
+split_each m s kind.Thing = omega arith
+
+drop_each : (m : Tables) (o : ItemOrigins) (j : Kind) (n : ℕ) (k : Kind) → ((k : Kind) → origin_count o k ≡ count_of m k) → origin_count (without_origin o j n) k ≡ count_of (without m j n) k
+drop_each m o kind.Vertex n kind.Vertex same = length-remove_same o.vertices m.vertices n (same kind.Vertex)
+drop_each m o kind.Vertex n kind.Sector same = same kind.Sector
+drop_each m o kind.Vertex n kind.Side same = same kind.Side
+drop_each m o kind.Vertex n kind.Line same = same kind.Line ∙ sym (length-map m.lines (line_without_vertex n))
+drop_each m o kind.Vertex n kind.Thing same = same kind.Thing
+drop_each m o kind.Sector n kind.Vertex same = same kind.Vertex
+drop_each m o kind.Sector n kind.Sector same = length-remove_same o.sectors m.sectors n (same kind.Sector)
+drop_each m o kind.Sector n kind.Side same = same kind.Side ∙ sym (length-map m.sides (side_without_sector n))
+drop_each m o kind.Sector n kind.Line same = same kind.Line
+drop_each m o kind.Sector n kind.Thing same = same kind.Thing
+drop_each m o kind.Side n kind.Vertex same = same kind.Vertex
+drop_each m o kind.Side n kind.Sector same = same kind.Sector
+drop_each m o kind.Side n kind.Side same = length-remove_same o.sides m.sides n (same kind.Side)
+drop_each m o kind.Side n kind.Line same = same kind.Line ∙ sym (length-map m.lines (line_without_side n))
+drop_each m o kind.Side n kind.Thing same = same kind.Thing
+drop_each m o kind.Line n kind.Vertex same = same kind.Vertex
+drop_each m o kind.Line n kind.Sector same = same kind.Sector
+drop_each m o kind.Line n kind.Side same = same kind.Side
+drop_each m o kind.Line n kind.Line same = length-remove_same o.lines m.lines n (same kind.Line)
+drop_each m o kind.Line n kind.Thing same = same kind.Thing
+drop_each m o kind.Thing n kind.Vertex same = same kind.Vertex
+drop_each m o kind.Thing n kind.Sector same = same kind.Sector
+drop_each m o kind.Thing n kind.Side same = same kind.Side
+drop_each m o kind.Thing n kind.Line same = same kind.Line
+drop_each m o kind.Thing n kind.Thing same = length-remove_same o.things m.things n (same kind.Thing)
+
+added_each : (m : Tables) (o : ItemOrigins) (c : Command) (place : ℕ) (k : Kind) → counts m c k → origin_count o k ≡ count_of m k
+    → origin_count (with_origins o (need_of c) place) k ≡ count_of (after m c) k
+added_each m o c place k is same = with_each o (need_of c) place k ∙ ap (λ (n : ℕ). n + need_at (need_of c) k) same ∙ sym is
+
+-- each item of a map has an origin after a command
+map_each : (m : Tables) (o : ItemOrigins) (c : Command) (place : ℕ) (k : Kind) → ((k : Kind) → origin_count o k ≡ count_of m k) → origin_count (origins_after o c place) k ≡ count_of (after m c) k
+map_each m o (Name name) place k same = added_each m o (Name name) place k (name_each m name k) (same k)
+map_each m o (Edit (Add i)) place k same = added_each m o (Edit (Add i)) place k (add_each m i k) (same k)
+map_each m o (Edit (Set n i)) place k same = added_each m o (Edit (Set n i)) place k (set_each m n i k) (same k)
+map_each m o (Edit (Drop j n)) place k same = drop_each m o j n k same
+map_each m o (Room r) place k same = added_each m o (Room r) place k (room_each m r k) (same k)
+map_each m o (Split s) place k same = added_each m o (Split s) place k (split_each m s k) (same k)
+
+-- ---- All maps
+
+none_each : (k : Kind) → origin_count no_origins k ≡ count_of empty_tables k
+none_each kind.Vertex = refl
+none_each kind.Sector = refl
+none_each kind.Side = refl
+none_each kind.Line = refl
+none_each kind.Thing = refl
+
+-- a map without items has no origins
+pub none_is : (m : Tables) → ((k : Kind) → count_of m k ≡ count_of empty_tables k) → origin_count no_origins ≡ count_of m
+none_is m empty = λ i. λ (k : Kind). (none_each k ∙ sym (empty k)) i
+
+-- those of the map with a number
+nth_each : (ms : List Tables) (all : List ItemOrigins) (n : ℕ) (k : Kind) → HasEachOrigin ms all → origin_count (get_or all n no_origins) k ≡ count_of (get_or ms n empty_tables) k
+nth_each ms all n k each =
+    let none = none_is empty_tables (λ (k : Kind). refl) in
+    ap (λ (f : Kind → ℕ). f k)
+    (sym (get_or_map origin_count all n no_origins) ∙ ap₂ (λ (fs : List (Kind → ℕ)) (f : Kind → ℕ). get_or fs n f) each none ∙ get_or_map count_of ms n empty_tables)
+
+set_each_of : (ms : List Tables) (all : List ItemOrigins) (n : ℕ) (m : Tables) (o : ItemOrigins) → HasEachOrigin ms all → ((k : Kind) → origin_count o k ≡ count_of m k)
+    → HasEachOrigin (slice_set ms n m) (slice_set all n o)
+set_each_of ms all n m o each same =
+    let is : origin_count o ≡ count_of m = λ i. λ (k : Kind). same k i in
+    map-set origin_count all n o ∙ ap₂ (λ (fs : List (Kind → ℕ)) (f : Kind → ℕ). slice_set fs n f) each is ∙ sym (map-set count_of ms n m)
+
+select_each : (b : Bool) (ms : List Tables) (all : List ItemOrigins) (m : Tables) → origin_count no_origins ≡ count_of m → HasEachOrigin ms all
+    → HasEachOrigin (if b then ms else ms ++ m ∷ []) (if b then all else all ++ no_origins ∷ [])
+select_each true ms all m none each = each
+select_each false ms all m none each =
+    map-append origin_count all (no_origins ∷ []) ∙ ap₂ (λ (fs : List (Kind → ℕ)) (f : Kind → ℕ). fs ++ f ∷ []) each none ∙ sym (map-append count_of ms (m ∷ []))
+
+-- each item of the maps has an origin after a command of a project
+pub each_after : (p : ProjectMaps) (all : List ItemOrigins) (c : ProjectCommand) (place : ℕ) → HasEachOrigin p.maps all → HasEachOrigin (project_after p c).maps (all_origins_after p all c place)
+each_after p all (Current c) place each =
+    let m = get_or p.maps p.current empty_tables in
+    let o = get_or all p.current no_origins in
+    set_each_of p.maps all p.current (after m c) (origins_after o c place) each (λ (k : Kind). map_each m o c place k (λ (k : Kind). nth_each p.maps all p.current k each))
+each_after p all (SelectMap name) place each =
+    select_each (has_map p name) p.maps all (with_name empty_tables name) (none_is (with_name empty_tables name) (named_each empty_tables name)) each
+each_after p all (DropMap name) place each =
+    let n = map_number_of p name in
+    map-remove origin_count all n ∙ ap (λ (fs : List (Kind → ℕ)). remove fs n) each ∙ sym (map-remove count_of p.maps n)
+
+-- ---- What is noted
+
+-- a command of the map with a number
+pub noted_ok : {E : Type 0} (r : Result (Unit {0}) E) (items : List MapOrigins) (n : ℕ) (own new : MapOrigins) (c : Command) (place : ℕ) → n < length items → own ≡ get_or items n own
+    → IfOk r (λ _. item_origins new ≡ origins_after (item_origins own) c place)
+    → IfOk r (λ _. map item_origins (slice_set items n new) ≡ slice_set (map item_origins items) n (origins_after (get_or (map item_origins items) n no_origins) c place))
+noted_ok (Ok u) items n own new c place inside there is =
+    map-set item_origins items n new
+    ∙ ap (λ (o : ItemOrigins). slice_set (map item_origins items) n o)
+    (is ∙ ap (λ (o : ItemOrigins). origins_after o c place) (ap item_origins there ∙ sym (get_or-map item_origins items n own no_origins inside)))
+noted_ok (Err e) items n own new c place inside there is = tt
+
+-- the same, refused
+pub noted_err : {E : Type 0} (r : Result (Unit {0}) E) (items : List MapOrigins) (n : ℕ) (own new : MapOrigins) → n < length items → own ≡ get_or items n own
+    → IfErr r (λ _. item_origins new ≡ item_origins own) → IfErr r (λ _. map item_origins (slice_set items n new) ≡ map item_origins items)
+noted_err (Ok u) items n own new inside there is = tt
+noted_err (Err e) items n own new inside there is =
+    map-set item_origins items n new
+    ∙ ap (λ (o : ItemOrigins). slice_set (map item_origins items) n o) (is ∙ ap item_origins there ∙ sym (get_or-map item_origins items n own no_origins inside))
+    ∙ set-get_or (map item_origins items) n no_origins
+
+-- the empty map alone
+pub first_each : (p : ProjectMaps) (none : MapOrigins) (before all : List MapOrigins) → p ≡ empty_project → before ≡ [] → all ≡ before ++ none ∷ [] → item_origins none ≡ no_origins
+    → HasEachOrigin p.maps (map item_origins all)
+first_each p none before all is empty put nothing =
+    let all_is : map item_origins all ≡ no_origins ∷ [] =
+    ap (map item_origins) (put ∙ ap (λ (xs : List MapOrigins). xs ++ none ∷ []) empty) ∙ ap (λ (o : ItemOrigins). o ∷ []) nothing in
+    ap (map origin_count) all_is ∙ ap (λ (f : Kind → ℕ). f ∷ []) (none_is empty_tables (λ (k : Kind). refl)) ∙ sym (ap (λ (q : ProjectMaps). map count_of q.maps) is)
+
+-- after a command that was decided over the maps as they are
+pub each_committed : (old mid new : ProjectMaps) (all noted : List ItemOrigins) (c done : ProjectCommand) (place : ℕ) → mid ≡ old → done ≡ c → new ≡ project_after mid done
+    → noted ≡ all_origins_after mid all c place → HasEachOrigin old.maps all → HasEachOrigin new.maps noted
+each_committed old mid new all noted c done place stays is after origins each =
+    ap (map origin_count) (origins ∙ ap (λ (p : ProjectMaps). all_origins_after p all c place) stays) ∙ each_after old all c place each
+    ∙ sym (ap (λ (p : ProjectMaps). map count_of p.maps) (after ∙ ap₂ (λ (p : ProjectMaps) (d : ProjectCommand). project_after p d) stays is))
+
+-- after a line
+pub notes : (r : Result ℕ CommandError) (old : OriginMaps) (line : List ℕ) (c : ProjectCommand) (all : List ItemOrigins) → InProjectRange c → line ≡ project_spelling c
+    → MatchResult r (λ _. all ≡ all_origins_after old.draft.maps old.origins c old.place) (λ _. all ≡ old.origins) → NotesOrigins old line (outcome_of r) all
+notes (Ok n) old line c all range is noted = (c, range, is, noted)
+notes (Err e) old line c all range is noted = noted
