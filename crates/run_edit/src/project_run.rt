@@ -118,12 +118,13 @@ fn answer_alone<D: Disk, W: Write>(
         (W.contents writer.old) (W.contents writer.new) }
     ensures left { Waits project.new waiting.new [] }
 {
+    if waiting.is_none() {
+        return answer_line(alloc, project, line, writer);
+    }
     if read_query(line).is_some() {
         return answer_line(alloc, project, line, writer);
     }
-    if waiting.is_some() {
-        *waiting = None;
-    }
+    *waiting = None;
     answer_line(alloc, project, line, writer)
 }
 
