@@ -1,3 +1,4 @@
 pub mod Defining
+pub mod Mentioned
 pub mod OneOut
 pub mod PlacedLines

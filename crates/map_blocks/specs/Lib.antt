@@ -1,4 +1,7 @@
 pub mod Blocks
+pub mod Deeds
 pub mod Defined
+pub mod Hanging
+pub mod Naming
 pub mod ShapePlaces
 pub mod Stops

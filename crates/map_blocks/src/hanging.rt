@@ -1,167 +1,160 @@
-//! Which refused lines of a script hang on one that was left out: with that one they might not be refused.
-ghost use Rattle.std.specs.Prelude.{◌<◌, length};
+//! Which refused lines of a script hang on others that were left out: once these are mended, they might not be refused.
+ghost use Rattle.std.specs.Prelude.{◌≡◌, ◌<◌, length};
+ghost use Rattle.std.specs.List.{list_all};
+ghost use Rattle.map_blocks.specs.Hanging.{are_settled, command_word, drawn_ground, ground_of, hangs, is_code_of, is_of_plain_words, plain_ground, puts_vertex, text_at_place};
+ghost use Rattle.map_blocks.specs.Deeds.{one_could_lift};
+ghost use Rattle.map_blocks.specs.Naming.{is_settled};
 
-use crate::stop::Stop;
-use map_script::{
-    ScriptLines, closes, define_words, defined_name, first_word, let_words, loop_words, opens,
-};
+use crate::deeds::{Ground, one_could_lift, one_frees};
+use crate::mentioning::{is_settled, mentions_given, mentions_unknown};
+use crate::stop::{OpenBlock, Stop};
+use map_script::{ScriptLines, closes, command_of, first_word, opens};
 
 // How many bytes a line has at most that is looked at: a longer one hangs on any other.
 const LONGEST: usize = 1_000;
 
-// ---- Names in a line
+/// The codes for which the words of a line alone are the reason, whatever its names stand for.
+pub const OF_WORDS: &[u16] = &[1, 15, 20, 21];
 
-fn is_name_byte(b: u8) -> bool {
-    b.is_ascii_alphanumeric() || b == b'_'
+/// Those for which they are, once its names have their values.
+pub const OF_PLAIN_WORDS: &[u16] = &[2, 25, 46];
+
+/// Those for which what is drawn, but things, may be the reason too.
+pub const OF_DRAWN: &[u16] = &[3, 4, 5, 6, 8, 9, 10, 11, 13, 26, 27, 28, 29, 45];
+
+/// Those for which the names of the maps, and which is the current one, are the reason.
+pub const OF_MAPS: &[u16] = &[16, 17, 18, 19];
+
+// Whether a code is one of these.
+#[tactic(auto, unfolding(crate::specs::Hanging::is_code_of))]
+fn is_code_of(codes: &[u16], code: u16) -> bool
+    ensures { result ≡ is_code_of codes.now code }
+{
+    codes.iter().any(|n| *n == code)
 }
 
-// The name with which a text begins.
-fn name_at(text: &[u8]) -> &[u8] {
-    for (i, b) in text.iter().enumerate() {
-        if !is_name_byte(*b) {
-            return &text[..i];
-        }
-    }
-    text
+// Whether the words of the line at a place hang on no map, or only on places that may stand in them.
+fn is_settled_at(places: bool, lines: &ScriptLines, place: usize) -> bool
+    ensures { result ≡ is_settled places lines.now (text_at_place lines.now place) }
+{
+    place >= lines.len() || is_settled(places, lines, lines.line(place).text)
 }
 
-// Whether a text begins with a name, and not with a kind before `(`.
-fn begins_with_name(text: &[u8]) -> bool {
-    for (i, b) in text.iter().enumerate() {
-        if !is_name_byte(*b) {
-            return 0 < i && *b != b'(';
-        }
-    }
-    !text.is_empty()
+// Whether this is so of the lines that opened blocks.
+fn are_settled_at(places: bool, lines: &ScriptLines, blocks: &[OpenBlock]) -> bool
+    ensures { result ≡ list_all (λ (b : OpenBlock).
+        is_settled places lines.now (text_at_place lines.now b.place)) blocks.now }
+{
+    blocks
+        .iter()
+        .all(|block| is_settled_at(places, lines, block.place))
 }
 
-// Whether a name stands in a line without a `$`, as where the line gives it, be it well written or not.
-fn stands_in(name: &[u8], line: &[u8]) -> bool {
-    let mut before = b' ';
-    for (i, b) in line.iter().enumerate() {
-        if before != b'$' && !is_name_byte(before) && name_at(&line[i..]) == name {
-            return true;
-        }
-        before = *b;
-    }
-    false
+// Whether it is so of a line and of those that opened the blocks round it.
+fn are_settled(places: bool, lines: &ScriptLines, line: &[u8], blocks: &[OpenBlock]) -> bool
+    ensures { result ≡ are_settled places lines.now line.now blocks.now }
+{
+    is_settled(places, lines, line) && are_settled_at(places, lines, blocks)
 }
 
-// Whether a name stands in one of some lines without a `$`.
-fn stands_in_one(name: &[u8], lines: &ScriptLines) -> bool {
-    for place in 0..lines.len() {
-        if stands_in(name, lines.line(place).text) {
-            return true;
-        }
-    }
-    false
+// The first word of a line's command.
+fn command_word(line: &[u8]) -> &[u8]
+    ensures { result.now ≡ command_word line.now }
+{
+    first_word(command_of(line)).0
 }
 
-// Whether one of the words of a text stands in a line without a `$`.
-fn one_stands_in(words: &[u8], line: &[u8]) -> bool {
-    let mut rest = words;
-    for _word in 0..words.len() {
-        let (word, behind) = first_word(rest);
-        if word.is_empty() {
-            return false;
-        }
-        if stands_in(word, line) {
-            return true;
-        }
-        rest = behind;
-    }
-    false
+// Whether a command puts vertices at places of its own.
+fn puts_vertex(word: &[u8]) -> bool
+    ensures { result ≡ puts_vertex word.now }
+{
+    word == b"vertex".as_slice() || word == b"room".as_slice() || word == b"split".as_slice()
 }
 
-// Whether a line mentions, as `$NAME`, a name that stands in one of some lines without a `$`.
-fn mentions_one_in(line: &[u8], lines: &ScriptLines) -> bool {
-    for (i, b) in line.iter().enumerate() {
-        if *b == b'$' && stands_in_one(name_at(&line[i + 1..]), lines) {
-            return true;
-        }
-    }
-    false
+// Whether words that hang on no map are the reason of a refusal alone.
+fn is_of_plain_words(code: u16, word: &[u8]) -> bool
+    ensures { result ≡ is_of_plain_words code word.now }
+{
+    is_code_of(OF_PLAIN_WORDS, code) || ((code == 9 || code == 11) && word != b"change".as_slice())
 }
 
-// ---- Names that a script gives
-
-// Whether a line gives a name that stands in a text without a `$`.
-fn gives_one_in(line: &[u8], text: &[u8]) -> bool {
-    if let Some(name) = defined_name(line) {
-        return stands_in(name, text);
-    }
-    if let Some(words) = let_words(line) {
-        return stands_in(first_word(words).0, text);
-    }
-    if let Some(words) = loop_words(line) {
-        return stands_in(first_word(words).0, text);
-    }
-    match define_words(line) {
-        Some(words) => one_stands_in(first_word(words).1, text),
-        None => false,
+// The ground of a refusal, where the words hang on no map.
+fn plain_ground(lines: &ScriptLines, code: u16, word: &[u8], else_so: Ground) -> Ground
+    ensures { result ≡ plain_ground lines.now code word.now else_so }
+{
+    if is_of_plain_words(code, word) {
+        Ground::Nothing
+    } else if code == 4 {
+        Ground::Sectors
+    } else if code == 7 {
+        Ground::Things
+    } else if code == 10 && puts_vertex(word) && !one_frees(lines) {
+        Ground::Place
+    } else {
+        else_so
     }
 }
 
-/// Whether one of some lines gives a name that stands in a text without a `$`.
-pub fn give_one_in(lines: &ScriptLines, text: &[u8]) -> bool {
-    for place in 0..lines.len() {
-        if gives_one_in(lines.line(place).text, text) {
-            return true;
-        }
-    }
-    false
-}
-
-// Whether a line mentions a name that none of some lines gives.
-fn mentions_unknown(line: &[u8], lines: &ScriptLines) -> bool {
-    for (i, b) in line.iter().enumerate() {
-        if *b == b'$' {
-            let behind = &line[i + 1..];
-            if begins_with_name(behind) && !give_one_in(lines, name_at(behind)) {
-                return true;
-            }
-        }
-    }
-    false
-}
-
-// Whether all of some lines only give words a name.
-fn are_lets(lines: &ScriptLines) -> bool {
-    for place in 0..lines.len() {
-        if let_words(lines.line(place).text).is_none() {
-            return false;
-        }
-    }
-    true
-}
-
-// ---- A refused line
-
-fn has_dollar(line: &[u8]) -> bool {
-    line.iter().any(|b| *b == b'$')
-}
-
-// Whether a line of a script would be refused so over any maps.
-fn is_refused_anyway(lines: &ScriptLines, line: &[u8], stop: &Stop) -> bool {
-    match stop.code {
-        1 | 15 | 20 | 21 => true,
-        2 | 46 => !has_dollar(line) && stop.open.is_empty(),
-        22 => mentions_unknown(line, lines),
-        _ => false,
+// The ground of a refusal, where the words hang on what is drawn, if `drawn`.
+fn drawn_ground(drawn: bool, code: u16) -> Ground
+    ensures { result ≡ drawn_ground drawn code }
+{
+    if is_code_of(OF_MAPS, code) {
+        Ground::MapNames
+    } else if drawn && is_code_of(OF_DRAWN, code) {
+        Ground::Drawn
+    } else {
+        Ground::Anything
     }
 }
 
-/// Whether a line of a script that was refused where some lines were left out might not be refused with them: it
-/// mentions a name that stands in one of them, or one of them does more than give words a name, and what was wrong may
-/// come from the maps.
+// What a line of a script was refused for with a code, within these blocks.
+fn ground_of(lines: &ScriptLines, line: &[u8], code: u16, blocks: &[OpenBlock]) -> Ground
+    ensures { result ≡ ground_of lines.now line.now code blocks.now }
+{
+    if is_code_of(OF_WORDS, code) || (code == 22 && mentions_unknown(lines, line)) {
+        Ground::Nothing
+    } else if are_settled(false, lines, line, blocks) {
+        plain_ground(lines, code, command_word(line), drawn_ground(true, code))
+    } else {
+        drawn_ground(are_settled(true, lines, line, blocks), code)
+    }
+}
+
+// The text of the line at a place.
+fn text_at(lines: &ScriptLines, place: usize) -> &[u8]
+    requires { place < length lines.now }
+    ensures { result.now ≡ text_at_place lines.now place }
+{
+    lines.line(place).text
+}
+
+// Whether one of some lines could lift the refusal of a line with this code, within these blocks.
+fn one_lifts(
+    lines: &ScriptLines,
+    left_out: &ScriptLines,
+    line: &[u8],
+    code: u16,
+    blocks: &[OpenBlock],
+) -> bool
+    ensures { result ≡ one_could_lift lines.now
+        (ground_of lines.now line.now code blocks.now) left_out.now }
+{
+    one_could_lift(lines, ground_of(lines, line, code, blocks), left_out)
+}
+
+/// Whether a line of a script that was refused where some lines were left out hangs on these: once they are mended, it
+/// might not be refused. So it is if it mentions a name that one of them may be meant to give, or if what one of them
+/// would have added, changed or taken away may be the reason; README.md has a table of these. A line of more than 1,000
+/// bytes hangs on any.
 pub fn hangs(lines: &ScriptLines, left_out: &ScriptLines, stop: &Stop) -> bool
     requires { stop.now.place < length lines.now }
+    ensures { result ≡ hangs lines.now left_out.now stop.now }
 {
-    let line = lines.line(stop.place).text;
-    if line.len() > LONGEST || mentions_one_in(line, left_out) {
-        return true;
-    }
-    !are_lets(left_out) && !is_refused_anyway(lines, line, stop)
+    let line = text_at(lines, stop.place);
+    line.len() > LONGEST
+        || mentions_given(left_out, line)
+        || one_lifts(lines, left_out, line, stop.code, &stop.open)
 }
 
 /// Whether nothing is told of the lines behind a refused one: the disk or memory failed, the script draws too many

@@ -1,12 +1,12 @@
 -- Lines whose commands wait together, and where a script is stopped if they are lost.
-use Rattle.std.proofs.Common.{◌≡◌, ◌∙◌, ◌⊎◌, inl, inr, ℕ, ◌<◌, Bool, true, false, List, [], Option, Some, None, Ok, refl, ap, sym, subst}
+use Rattle.std.proofs.Common.{◌≡◌, ◌∙◌, ◌⊎◌, inl, inr, ℕ, ◌<◌, ◌==◌, Bool, true, false, List, [], Option, Some, None, Ok, refl, ap, sym, subst}
 use Rattle.std.specs.Prelude.{IfSome, MatchOption, if◌then◌else◌, suc}
 use Rattle.std.specs.Io.KnownBytes.{Keeps}
 use Rattle.std.proofs.KnownBytes.{Keeps-refl, Keeps-trans}
 use Rattle.std.proofs.lemmas.Bool.{true≢false}
-use Rattle.run_canvas.specs.Canvases.{NothingWaits}
+use Rattle.run_canvas.specs.Canvases.{NothingWaits, OneOf}
 use Rattle.map_blocks.specs.Defined.{Shape}
-use Rattle.run_script.specs.Drawn.{Advances, ComesTo, EndsFrom, IsAtPlace, IsCutOff, IsStoppedAt, Progress, Refuses, on_canvas}
+use Rattle.run_script.specs.Drawn.{Advances, ComesTo, EndsFrom, IsAtPlace, IsCutOff, IsStoppedAt, Progress, PutsAtEnd, Refuses, on_canvas}
 use Rattle.run_script.specs.Opened.{open_blocks}
 use Rattle.map_blocks.specs.Stops.{IsStop, IsStopWithin}
 use Rattle.map_blocks.specs.declared.stop.OpenBlock.{OpenBlock}
@@ -29,7 +29,7 @@ SettledAgain {S = S} facts = (old mid new : S) → facts.settles old mid → fac
 -- a line was refused, in these blocks
 pub stopped_there : {S : Type 0} (facts : Ghosts S) (verbose : Bool) (shapes : List Shape) (start : Progress S) (limit n place code : ℕ) (mid new : Progress S) (told : List OpenBlock)
     (stop : Stop) (canvas : S) (w : Option (List ℕ)) → ComesTo facts verbose shapes start n mid → IsAtPlace mid.lines mid.turns place
-    → Refuses facts verbose shapes limit n mid code new → IsStop place code told stop → told ≡ open_blocks code mid.lines mid.turns → facts.settles new.sketch.canvas canvas
+    → Refuses facts verbose shapes limit n mid code new → IsStop place code told stop → told ≡ open_blocks code mid.lines mid.turns → PutsAtEnd facts (Some stop) new.sketch.canvas canvas
     → w ≡ new.sketch.written → IsStoppedAt facts verbose shapes start limit stop canvas w
 stopped_there facts verbose shapes start limit n place code mid new told stop canvas w reached at refuses is blocks settled written = record {
   count = n;
@@ -42,6 +42,13 @@ stopped_there facts verbose shapes start limit n place code mid new told stop ca
   put = settled;
   has = written;
 }
+
+-- with 30 what waited was put
+at_thirty : {S : Type 0} (facts : Ghosts S) (code : ℕ) (old new : S) → code ≡ 30 → facts.settles old new → OneOf (code == 31) (new ≡ old) (facts.settles old new)
+at_thirty facts code old new is settled = subst (λ (c : ℕ). OneOf (c == 31) (new ≡ old) (facts.settles old new)) (sym is) settled
+
+of_thirty : {S : Type 0} (facts : Ghosts S) (code : ℕ) (old new : S) → code ≡ 30 → OneOf (code == 31) (new ≡ old) (facts.settles old new) → facts.settles old new
+of_thirty facts code old new is put = subst (λ (c : ℕ). OneOf (c == 31) (new ≡ old) (facts.settles old new)) is put
 
 -- a stop at this place with 30, in no block, tells where the script was stopped
 abbrev pub StopsAlone : {S : Type 0} → Ghosts S → Bool → List Shape → Progress S → ℕ → ℕ → S → Option (List ℕ) → Type 0
@@ -66,7 +73,8 @@ module _ {S : Type 0} (facts : Ghosts S) (since : Since facts) (within : Within 
         at_place = old.at_place;
         refused = old.refused;
         blocks = old.blocks;
-        put = again old.after.sketch.canvas other last old.put settled;
+        put = at_thirty facts stop.code old.after.sketch.canvas last is.code
+            (again old.after.sketch.canvas other last (of_thirty facts stop.code old.after.sketch.canvas other is.code old.put) settled);
         has = old.has;
       }
 
@@ -93,7 +101,7 @@ module _ {S : Type 0} (facts : Ghosts S) (since : Since facts) (within : Within 
           → StopsAlone facts verbose shapes start limit place last w
       stopped w (x, drawn, canvas, written) stop is =
           stopped_there facts verbose shapes start limit n place 30 mid x [] stop last w reached at (inl (under, (place, at, began, begins, drawn))) is refl
-          (subst (λ (s : S). facts.settles s last) (sym canvas) (lost_settled new.sketch.canvas last lost)) (sym written)
+          (at_thirty facts stop.code x.sketch.canvas last is.code (subst (λ (s : S). facts.settles s last) (sym canvas) (lost_settled new.sketch.canvas last lost))) (sym written)
 
       go : (verbose ≡ false → Keeps mid.sketch.written new.sketch.written)
           → Lost facts since within alone made refused told_all loss_told began new.sketch.canvas last
@@ -140,10 +148,10 @@ none_lost_from facts verbose shapes start limit many place written canvas nothin
 
 abbrev Finishes : {S : Type 0} → Ghosts S → S → S → Option Stop → Option Stop → ℕ → Type 0
 Finishes facts old new ended result first =
-    (facts.settles old new × (result ≡ ended)) ⊎ (facts.loses old new × MatchOption result ⊥ (IsStop first 30 []))
+    (PutsAtEnd facts ended old new × (result ≡ ended)) ⊎ (facts.loses old new × MatchOption result ⊥ (IsStop first 30 []))
 
 pub finished : {S : Type 0} (facts : Ghosts S) (verbose : Bool) (shapes : List Shape) (start : Progress S) (limit many first : ℕ) (written : Option (List ℕ)) (old new : S) (ended result : Option Stop)
-    → (facts.settles old new → EndsFrom facts verbose shapes start limit (Ok ended) new written) → IsLostFrom facts verbose shapes start limit many first written old
+    → (PutsAtEnd facts ended old new → EndsFrom facts verbose shapes start limit (Ok ended) new written) → IsLostFrom facts verbose shapes start limit many first written old
     → Finishes facts old new ended result first → EndsFrom facts verbose shapes start limit (Ok result) new written
 finished facts verbose shapes start limit many first written old new ended result ends lost (inl (settled, is)) =
     subst (λ (o : Option Stop). EndsFrom facts verbose shapes start limit (Ok o) new written) (sym is) (ends settled)

@@ -1,5 +1,5 @@
 -- What holds of a canvas through a script, if each of its calls keeps it.
-use Rattle.std.proofs.Common.{◌≡◌, ◌⊎◌, inl, inr, ℕ, Bool, true, false, List, [], ◌∷◌, Option, Some, None, Result, Ok, Err, sym, ap, subst}
+use Rattle.std.proofs.Common.{◌≡◌, ◌⊎◌, inl, inr, ℕ, ◌==◌, Bool, true, false, List, [], ◌∷◌, Option, Some, None, Result, Ok, Err, sym, ap, subst}
 use Rattle.std.specs.Prelude.{MatchOption, MatchResult, zero, suc}
 use Rattle.map_script.specs.Errors.{code_of}
 use Rattle.map_script.specs.Lines.{let_words, line_for}
@@ -107,12 +107,16 @@ module _ {S : Type 0} (facts : Ghosts S) (P : S → Type 0) (keep : AreKept fact
   leaves_keeps left canvas kept (inl settled) = keep.settle left canvas kept settled
   leaves_keeps left canvas kept (inr lost) = keep.lose left canvas kept lost
 
+  puts_keeps : (b : Bool) (old new : S) → P old → OneOf b (new ≡ old) (facts.settles old new) → P new
+  puts_keeps true old new kept same = same_keeps old new kept same
+  puts_keeps false old new kept settled = keep.settle old new kept settled
+
   ends_keeps : (verbose : Bool) (shapes : List Shape) (first : Progress S) (limit : ℕ) (result : Result (Option Stop) ScriptError) (canvas : S) (w : Option (List ℕ)) → P first.sketch.canvas
       → EndsFrom facts verbose shapes first limit result canvas w → P canvas
   ends_keeps verbose shapes first limit (Ok None) canvas w kept ends =
       keep.settle ends.last.sketch.canvas canvas (comes_keeps verbose shapes first ends.count ends.last kept ends.reached) ends.put
   ends_keeps verbose shapes first limit (Ok (Some stop)) canvas w kept ends =
-      keep.settle ends.after.sketch.canvas canvas
+      puts_keeps (stop.code == 31) ends.after.sketch.canvas canvas
       (refused_keeps verbose shapes limit ends.count ends.before stop.code ends.after (comes_keeps verbose shapes first ends.count ends.before kept ends.reached) ends.refused) ends.put
   ends_keeps verbose shapes first limit (Err e) canvas w kept (cause, ends) =
       leaves_keeps ends.left canvas

@@ -1,5 +1,5 @@
 -- A drawing onto maps that keep the origins of their items is one onto the maps alone.
-use Rattle.std.proofs.Common.{◌≡◌, ◌⊎◌, inl, inr, ℕ, Bool, true, false, List, [], ◌∷◌, Option, Some, None, Result, Ok, Err, ap}
+use Rattle.std.proofs.Common.{◌≡◌, ◌⊎◌, inl, inr, ℕ, ◌==◌, Bool, true, false, List, [], ◌∷◌, Option, Some, None, Result, Ok, Err, ap}
 use Rattle.std.specs.Prelude.{MatchOption, MatchResult, zero, suc}
 use Rattle.map_script.specs.Errors.{code_of}
 use Rattle.map_script.specs.Lines.{let_words, line_for}
@@ -113,6 +113,10 @@ leaves_same : (left canvas : OriginMaps) → (canvas ≡ left) ⊎ ⊥ → (canv
 leaves_same left canvas (inl settled) = inl (ap maps_of settled)
 leaves_same left canvas (inr lost) = inr lost
 
+puts_same : (b : Bool) (old new : OriginMaps) → OneOf b (new ≡ old) (new ≡ old) → OneOf b (new.draft ≡ old.draft) (new.draft ≡ old.draft)
+puts_same true old new same = ap maps_of same
+puts_same false old new same = ap maps_of same
+
 ended_same : (verbose : Bool) (shapes : List Shape) (first : Progress OriginMaps) (limit : ℕ) (result : Result (Option Stop) ScriptError) (canvas : OriginMaps) (w : Option (List ℕ))
     → EndsFrom origin_canvas verbose shapes first limit result canvas w → EndsFrom draft_canvas verbose shapes (alone first) limit result canvas.draft w
 ended_same verbose shapes first limit (Ok None) canvas w ends = record {
@@ -132,7 +136,7 @@ ended_same verbose shapes first limit (Ok (Some stop)) canvas w ends = record {
   at_place = ends.at_place;
   refused = refused_same verbose shapes limit ends.count ends.before stop.code ends.after ends.refused;
   blocks = ends.blocks;
-  put = ap maps_of ends.put;
+  put = puts_same (stop.code == 31) ends.after.sketch.canvas canvas ends.put;
   has = ends.has;
 }
 ended_same verbose shapes first limit (Err e) canvas w (cause, ends) = (

@@ -1,5 +1,5 @@
 -- What a script draws, line by line and turn by turn (docs/COMMANDS.md, "Scripts").
-use Rattle.std.specs.Prelude.{◌≡◌, ◌⊎◌, ℕ, zero, suc, ◌+◌, ◌<◌, ◌≤◌, Bool, List, [], ◌∷◌, ◌++◌, Option, Some, None, Result, Ok, Err, MatchOption, length}
+use Rattle.std.specs.Prelude.{◌≡◌, ◌⊎◌, ℕ, zero, suc, ◌+◌, ◌==◌, ◌<◌, ◌≤◌, Bool, false, List, [], ◌∷◌, ◌++◌, Option, Some, None, Result, Ok, Err, MatchOption, length}
 use Rattle.map_script.specs.Scopes.{first_scope}
 use Rattle.map_blocks.specs.Blocks.{order_fault, with_places}
 use Rattle.map_blocks.specs.Defined.{Shape, shapes_in}
@@ -7,6 +7,7 @@ use Rattle.run_script.specs.Lines.{sketch_of}
 use Rattle.run_script.specs.Opened.{Turn, open_blocks}
 use Rattle.run_script.specs.Orders.{IsOutOfOrder}
 pub use Rattle.run_script.specs.Progress.{Advances, AdvancesOver, DrawsNext, IsAtPlace, Progress, Steps, at_position, on_canvas, opened_by}
+use Rattle.run_canvas.specs.Canvases.{OneOf}
 use Rattle.run_canvas.specs.declared.canvas.Canvas.{Ghosts}
 use Rattle.map_blocks.specs.declared.stop.Stop.{Stop}
 use Rattle.run_canvas.specs.declared.error.ScriptError.{ScriptError}
@@ -59,8 +60,19 @@ pub record IsAllDrawn {S : Type 0} (facts : Ghosts S) (verbose : Bool) (shapes :
   pub put : facts.settles last.sketch.canvas canvas
   pub has : written ≡ last.sketch.written
 
+-- a drawing ended because memory ran out
+abbrev pub is_spent : Option Stop → Bool
+is_spent None = false
+is_spent (Some stop) = stop.code == 31
+
+-- What waited was put; but where memory ran out it is left, and goes with the canvas: a part of a
+-- shape's commands may wait there.
+abbrev pub PutsAtEnd : {S : Type 0} → Ghosts S → Option Stop → S → S → Type 0
+PutsAtEnd facts ended old new = OneOf (is_spent ended) (new ≡ old) (facts.settles old new)
+
 -- The lines before one were drawn, and the one at the stop's place was refused with its code, in the
--- stop's blocks. With 30 it may be the first of those that were to be put together.
+-- stop's blocks. With 30 it may be the first of those that were to be put together; with 31 nothing
+-- that waited was put.
 pub record IsStoppedAt {S : Type 0} (facts : Ghosts S) (verbose : Bool) (shapes : List Shape)
     (first : Progress S) (limit : ℕ) (stop : Stop) (canvas : S) (written : Option (List ℕ))
     : Type 0 where
@@ -71,7 +83,7 @@ pub record IsStoppedAt {S : Type 0} (facts : Ghosts S) (verbose : Bool) (shapes 
   pub at_place : IsAtPlace before.lines before.turns stop.place
   pub refused : Refuses facts verbose shapes limit count before stop.code after
   pub blocks : stop.open.items ≡ open_blocks stop.code before.lines before.turns
-  pub put : facts.settles after.sketch.canvas canvas
+  pub put : PutsAtEnd facts (Some stop) after.sketch.canvas canvas
   pub has : written ≡ after.sketch.written
 
 -- this is the canvas after the lines that were drawn before memory ran out or the writer failed; what

@@ -5,7 +5,7 @@ ghost use Rattle.map_script.specs.Scopes.{first_scope};
 ghost use Rattle.map_blocks.specs.Blocks.{with_places};
 ghost use Rattle.run_canvas.specs.Canvases.{NothingWaits};
 ghost use Rattle.map_blocks.specs.Defined.{shapes_in};
-ghost use Rattle.run_script.specs.Drawn.{EndsFrom, IsScriptDrawn, at_first, line_limit};
+ghost use Rattle.run_script.specs.Drawn.{EndsFrom, IsScriptDrawn, PutsAtEnd, at_first, is_spent, line_limit};
 ghost use Rattle.run_script.specs.Places.{AdvancesTo, IsFirstReading, IsToldBehind, IsWithinLines, progress_of, told_around};
 ghost use Rattle.map_blocks.specs.Stops.{IsStop, IsStopWithin};
 ghost use Rattle.map_blocks.specs.ShapePlaces.{AreShapesWithin, shapes_among};
@@ -184,16 +184,30 @@ fn too_many_at(reading: Reading, place: usize) -> Stop
     }
 }
 
-// Puts what waits from the line at `first` on, and returns how the drawing ended.
+// Whether a drawing ended because memory ran out.
+fn is_spent(ended: &Option<Stop>) -> bool
+    ensures { result ≡ is_spent ended.now }
+{
+    match ended {
+        Some(stop) => stop.code == 31,
+        None => false,
+    }
+}
+
+// Puts what waits from the line at `first` on, and returns how the drawing ended. Where memory ran out, a part of a
+// shape's commands may wait, so nothing is put.
 fn finish<C: Canvas>(
     alloc: Global,
     canvas: &mut C,
     ended: Option<Stop>,
     first: usize,
 ) -> Option<Stop>
-    ensures { (C.Canvas.settles canvas.old canvas.new × (result ≡ ended))
+    ensures { (PutsAtEnd C.Canvas ended canvas.old canvas.new × (result ≡ ended))
         ⊎ (C.Canvas.loses canvas.old canvas.new × MatchOption result ⊥ (IsStop first 30 [])) }
 {
+    if is_spent(&ended) {
+        return ended;
+    }
     if canvas.settle() {
         ended
     } else {
@@ -301,7 +315,7 @@ fn draw_shaped<C: Canvas, W: Write>(
 /// Answers to queries are written; for commands `NUMBER: ok N` is written if `is_verbose`. In a project the commands
 /// before a query are on the disk before it is answered, and so is a command whose answer is written. All others may
 /// wait, and go to the disk together; if that fails, the first line of those that were to go is refused (30), and none
-/// of them is drawn.
+/// of them is drawn. If a line is refused because memory ran out (31), those that wait then are never put.
 ///
 /// `names` must be empty at first; after the call it has the names that the drawn lines gave. If the blocks are out of
 /// order, the script is refused (47), and nothing is drawn.

@@ -1,7 +1,8 @@
 -- What is told of the lines of a script that are refused, one after the other (docs/COMMANDS.md,
 -- "Scripts").
-use Rattle.std.specs.Prelude.{◌≡◌, ◌≤◌, ℕ, false, List, [], ◌∷◌, Option, Some, None, Ok, IfSome, filter, flat_map, is_some, length, slice_get, unwrap_or}
+use Rattle.std.specs.Prelude.{◌≡◌, ◌≤◌, ℕ, false, not, List, [], ◌∷◌, ◌++◌, Option, Some, None, Ok, IfSome, filter, flat_map, get_or, is_some, length, slice_get, unwrap_or}
 use Rattle.std.specs.List.{remove}
+use Rattle.map_blocks.specs.Hanging.{hangs}
 use Rattle.map_blocks.specs.declared.stop.Stop.{Stop}
 use Rattle.run_canvas.specs.Canvases.{Drafted, draft_canvas}
 use Rattle.run_script.specs.Drawn.{IsScriptDrawn}
@@ -29,14 +30,21 @@ StopsAt first lines stop =
 
 -- ---- One after the other
 
--- Of the lines at which a script stops, one after the other, this was told, or nothing. Each time it
--- is drawn from the same maps on, without the lines at which it stopped before.
-abbrev pub AreToldFrom : Drafted → List (ℕ × List ℕ) → List (List ℕ) → List (Option (List ℕ))
-    → Type 0
-AreToldFrom first lines files [] = Unit {0}
-AreToldFrom first lines files (told ∷ more) =
-    (stop : Stop) × StopsAt first lines stop × IfSome told (IsToldAmong lines files stop)
-    × AreToldFrom first (remove lines stop.place) (remove files stop.place) more
+-- the lines that were left out, and one more, at a place of a script
+abbrev pub with_left_out : List (ℕ × List ℕ) → List (ℕ × List ℕ) → ℕ → List (ℕ × List ℕ)
+with_left_out out lines place = out ++ get_or lines place (0, []) ∷ []
+
+-- Of the lines at which a script stops, one after the other, this was told: nothing of one that hangs
+-- on those that were left out, and something of each other. Each time it is drawn from the same maps
+-- on, without the lines at which it stopped before.
+abbrev pub AreToldFrom : Drafted → List (ℕ × List ℕ) → List (List ℕ) → List (ℕ × List ℕ)
+    → List (Option (List ℕ)) → Type 0
+AreToldFrom first lines files out [] = Unit {0}
+AreToldFrom first lines files out (told ∷ more) =
+    (stop : Stop) × StopsAt first lines stop × (is_some told ≡ not (hangs lines out stop))
+    × IfSome told (IsToldAmong lines files stop)
+    × AreToldFrom first (remove lines stop.place) (remove files stop.place)
+    (with_left_out out lines stop.place) more
 
 -- all that was told of them
 abbrev pub told_text : List (Option (List ℕ)) → List ℕ
@@ -46,13 +54,15 @@ told_text tolds = flat_map (λ told. unwrap_or told []) tolds
 abbrev pub told_count : List (Option (List ℕ)) → ℕ
 told_count tolds = length (filter is_some tolds)
 
--- this was told of the stops of a script, of so many of them at most
-abbrev pub AreStopsTold : ℕ → Drafted → List (ℕ × List ℕ) → List (List ℕ) → List ℕ → Type 0
-AreStopsTold most first lines files text =
-    (tolds : List (Option (List ℕ))) × AreToldFrom first lines files tolds
+-- this was told of the stops of a script without these lines, of so many of them at most
+abbrev pub AreStopsTold : ℕ → Drafted → List (ℕ × List ℕ) → List (List ℕ) → List (ℕ × List ℕ)
+    → List ℕ → Type 0
+AreStopsTold most first lines files out text =
+    (tolds : List (Option (List ℕ))) × AreToldFrom first lines files out tolds
     × (text ≡ told_text tolds) × (told_count tolds ≤ most)
 
 -- the same of those behind one stop: 20 are told with it
 abbrev pub AreFurtherTold : Drafted → List (ℕ × List ℕ) → List (List ℕ) → Stop → List ℕ → Type 0
 AreFurtherTold first lines files stop text =
-    AreStopsTold 19 first (remove lines stop.place) (remove files stop.place) text
+    AreStopsTold 19 first (remove lines stop.place) (remove files stop.place)
+    (with_left_out [] lines stop.place) text

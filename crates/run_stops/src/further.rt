@@ -4,11 +4,11 @@ ghost use Rattle.std.specs.List.{remove};
 ghost use Rattle.map_blocks.specs.Stops.{IsStopWithin};
 ghost use Rattle.map_tables.specs.Projects.{body_len, project_of};
 ghost use Rattle.run_canvas.specs.declared.error.ScriptError.TheVariants.{OutOfMemory};
-ghost use Rattle.run_stops.specs.ToldStops.{AreFurtherTold, IsToldAmong, StopsAt};
+ghost use Rattle.run_stops.specs.ToldStops.{AreFurtherTold, IsToldAmong, StopsAt, with_left_out};
 ghost use Rattle.run_stops.specs.Telling.{PutsTold, TellsOneMore};
 
 use crate::told::stop_told;
-use map_blocks::{Stop, ends_telling, files_without, give_one_in, hangs, lines_without};
+use map_blocks::{Stop, ends_telling, files_without, give_one_of, hangs, lines_without};
 use map_script::{DrawError, Names, ScriptFiles, ScriptLines};
 use map_tables::Maps;
 use run_canvas::{Canvas, Draft, ScriptError};
@@ -85,6 +85,8 @@ fn leave_out(alloc: Global, telling: &mut Telling, place: usize) -> Result<(), D
     requires files { length telling.old.files ≡ length telling.old.lines }
     ensures lines { IfOk result (λ _. telling.new.lines ≡ remove telling.old.lines place) }
     ensures files { IfOk result (λ _. telling.new.files ≡ remove telling.old.files place) }
+    ensures out { IfOk result (λ _. telling.new.left_out
+        ≡ with_left_out telling.old.left_out telling.old.lines place) }
     ensures text { IfOk result (λ _. telling.new.text.items ≡ telling.old.text.items) }
     ensures count { IfOk result (λ _. telling.new.count ≡ telling.old.count) }
 {
@@ -98,7 +100,8 @@ fn leave_out(alloc: Global, telling: &mut Telling, place: usize) -> Result<(), D
 fn put_told(telling: &mut Telling, found: &ToldStop) -> Result<(), ScriptError>
     requires within { IsStopWithin (length telling.old.lines) found.now.stop }
     requires few { telling.old.count < 19 }
-    ensures put { IfOk result (λ _. PutsTold found.now.text.items telling.old telling.new) }
+    ensures put { IfOk result (λ _.
+        PutsTold found.now.stop found.now.text.items telling.old telling.new) }
     ensures memory { IfErr result (λ e. e ≡ OutOfMemory) }
 {
     if hangs(&telling.lines, &telling.left_out, &found.stop) {
@@ -165,6 +168,7 @@ fn telling_behind(
     requires files { length files.now ≡ length lines.now }
     ensures lines { IfOk result (λ t. t.lines ≡ remove lines.now place) }
     ensures files { IfOk result (λ t. t.files ≡ remove files.now place) }
+    ensures out { IfOk result (λ t. t.left_out ≡ with_left_out [] lines.now place) }
     ensures text { IfOk result (λ t. t.text.items ≡ []) }
     ensures count { IfOk result (λ t. t.count ≡ 0) }
 {
@@ -191,7 +195,7 @@ fn may_go_on(telling: &Telling, round: usize) -> bool
         return false;
     }
     match telling.left_out.len().checked_sub(1) {
-        Some(last) => !give_one_in(&telling.lines, telling.left_out.line(last).text),
+        Some(last) => !give_one_of(&telling.lines, telling.left_out.line(last).text),
         None => true,
     }
 }

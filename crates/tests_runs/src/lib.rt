@@ -22,3 +22,5 @@ pub mod streams;
 mod sweeping;
 #[cfg(test)]
 mod sweeps;
+#[cfg(test)]
+mod told;

@@ -30,4 +30,4 @@ returns-in-Ok-leave_out-clause-told c =
     (if_there (λ (t : ToldStop). StopsAt first old.lines t.stop) _ found there c.in-Ok-Some.ensures.stops)
     (if_there (λ (t : ToldStop). IsToldAmong old.lines old.files t.stop t.text.items) _ found there c.in-Ok-Some.ensures.told)
     (if_there (λ (t : ToldStop). IsStopWithin (length old.lines) t.stop) _ found there c.in-Ok-Some.ensures.within)
-    c.in-Ok.ensures.put c.in-Ok-leave_out.ensures.text c.in-Ok-leave_out.ensures.count (λ goes. (c.in-Ok-leave_out.ensures.lines, c.in-Ok-leave_out.ensures.files))
+    c.in-Ok.ensures.put c.in-Ok-leave_out.ensures.text c.in-Ok-leave_out.ensures.count (λ goes. (c.in-Ok-leave_out.ensures.lines, c.in-Ok-leave_out.ensures.files, c.in-Ok-leave_out.ensures.out))

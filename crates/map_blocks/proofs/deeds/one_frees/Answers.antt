@@ -1,0 +1,16 @@
+use Rattle.std.proofs.Common.{◌∙◌, ℕ, List, arith, false, sym}
+use Rattle.map_script.specs.Views.{seen}
+use Rattle.map_script.proofs.AnyIncludes.{any_here, any_more, any_none}
+use Rattle.map_blocks.specs.Deeds.{frees_place}
+use Rattle.map_blocks.proofs.deeds.one_frees.Goals as goal
+
+pub loop-place-preserved : goal.loop-place-preserved
+loop-place-preserved c =
+    any_more (λ (l : ℕ × List ℕ). frees_place l.1) c.args.lines.now c.loop-place.place (seen c.line.result) c.line.ensures (sym c.frees_place.ensures ∙ c.if-frees_place.false) ∙ c.loop-place.invariant
+
+pub returns-then-frees_place : goal.returns-then-frees_place
+returns-then-frees_place c =
+    sym (any_here (λ (l : ℕ × List ℕ). frees_place l.1) c.args.lines.now c.loop-place.place (seen c.line.result) c.line.ensures (sym c.frees_place.ensures ∙ c.if-frees_place.true)) ∙ c.loop-place.invariant
+
+pub returns : goal.returns
+returns c = sym (any_none (λ (l : ℕ × List ℕ). frees_place l.1) c.args.lines.now c.loop-place.place (omega (arith, c.loop-place-test.false))) ∙ c.loop-place.invariant

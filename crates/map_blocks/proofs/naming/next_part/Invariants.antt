@@ -1,0 +1,7 @@
+use Rattle.std.proofs.Common.{◌≡◌, ℕ, ◌<◌, false, get_or}
+use Rattle.map_blocks.specs.Naming.{parts_names}
+use Rattle.map_blocks.proofs.naming.next_part.Given as goal
+
+-- none so far
+abbrev pub invariant-loop-i : goal.invariant-loop-i
+invariant-loop-i l = (k : ℕ) → k < l.i → parts_names (get_or l.text k 0) ≡ false

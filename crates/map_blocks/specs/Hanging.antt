@@ -1,0 +1,74 @@
+-- Which refused lines of a script hang on others that were left out: once these are mended, they
+-- might not be refused (docs/COMMANDS.md, "Scripts"; README.md).
+use Rattle.std.specs.Prelude.{ℕ, Bool, false, true, ◌==◌, ◌||◌, ◌&&◌, not, nat_lt, if◌then◌else◌, List, [], bytes_eq, codes, get_or, length}
+use Rattle.std.specs.List.{list_all, list_any}
+use Rattle.map_script.specs.Lines.{command_words}
+use Rattle.map_script.specs.Words.{first_word, text_words}
+use Rattle.map_blocks.specs.Deeds.{one_could_lift, one_frees}
+use Rattle.map_blocks.specs.Naming.{is_settled, mentions_given, mentions_unknown}
+use Rattle.map_blocks.specs.declared.deeds.Ground.{Ground}
+use Rattle.map_blocks.specs.declared.deeds.Ground.TheVariants.{Anything, Drawn, MapNames, Nothing, Place, Sectors, Things}
+use Rattle.map_blocks.specs.declared.hanging.TheConstants.{OF_DRAWN, OF_MAPS, OF_PLAIN_WORDS, OF_WORDS}
+use Rattle.map_blocks.specs.declared.stop.OpenBlock.{OpenBlock}
+use Rattle.map_blocks.specs.declared.stop.Stop.{Stop}
+
+-- the text of the line at a place, which is empty behind the last
+abbrev pub text_at_place : List (ℕ × List ℕ) → ℕ → List ℕ
+text_at_place lines place = (get_or lines place (0, [])).1
+
+-- a code is one of these
+unfoldable pub is_code_of : List ℕ → ℕ → Bool
+is_code_of codes code = list_any (λ n. n == code) codes
+
+-- the words of a line and of the lines that opened the blocks round it hang on no map; or, if places
+-- may stand in them, on no more than what is drawn
+abbrev pub are_settled : Bool → List (ℕ × List ℕ) → List ℕ → List OpenBlock → Bool
+are_settled places lines line blocks =
+    is_settled places lines line
+    && list_all (λ (b : OpenBlock). is_settled places lines (text_at_place lines b.place)) blocks
+
+-- the first word of a line's command
+abbrev pub command_word : List ℕ → List ℕ
+command_word line = first_word (command_words (text_words line))
+
+-- a command that puts vertices at places of its own, whatever else is drawn
+abbrev pub puts_vertex : List ℕ → Bool
+puts_vertex word =
+    bytes_eq word (codes "vertex") || (bytes_eq word (codes "room") || bytes_eq word (codes "split"))
+
+-- these words alone are the reason, where they hang on no map
+abbrev pub is_of_plain_words : ℕ → List ℕ → Bool
+is_of_plain_words code word =
+    is_code_of OF_PLAIN_WORDS.now code
+    || (((code == 9) || (code == 11)) && not (bytes_eq word (codes "change")))
+
+-- the ground of a refusal, where the words hang on no map
+abbrev pub plain_ground : List (ℕ × List ℕ) → ℕ → List ℕ → Ground → Ground
+plain_ground lines code word else-so =
+    if is_of_plain_words code word then Nothing
+    else (if code == 4 then Sectors
+    else (if code == 7 then Things
+    else (if (code == 10) && (puts_vertex word && not (one_frees lines)) then Place else else-so)))
+
+-- the ground of a refusal, where the words hang on what is drawn, if at all
+abbrev pub drawn_ground : Bool → ℕ → Ground
+drawn_ground drawn code =
+    if is_code_of OF_MAPS.now code then MapNames
+    else (if drawn && is_code_of OF_DRAWN.now code then Drawn else Anything)
+
+-- what a line of a script was refused for with a code, within these blocks
+abbrev pub ground_of : List (ℕ × List ℕ) → List ℕ → ℕ → List OpenBlock → Ground
+ground_of lines line code blocks =
+    if is_code_of OF_WORDS.now code || ((code == 22) && mentions_unknown lines line) then Nothing
+    else (if are_settled false lines line blocks
+    then plain_ground lines code (command_word line) (drawn_ground true code)
+    else drawn_ground (are_settled true lines line blocks) code)
+
+-- A refused line of a script hangs on lines that were left out: it is too long to be looked at, or
+-- mentions a name that one of them may be meant to give, or one of them could lift its refusal.
+abbrev pub hangs : List (ℕ × List ℕ) → List (ℕ × List ℕ) → Stop → Bool
+hangs lines out stop =
+    let line = text_at_place lines stop.place in
+    nat_lt 1000 (length line)
+    || (mentions_given out line
+    || one_could_lift lines (ground_of lines line stop.code stop.«open».items) out)

@@ -1,0 +1,344 @@
+//! What a refused line would have done to the maps, by the word with which its command begins.
+ghost use Rattle.std.specs.Prelude.{◌≡◌, ◌==◌, ◌&&◌, bytes_eq, slice_index};
+ghost use Rattle.std.specs.List.{list_any};
+ghost use Rattle.map_blocks.specs.Blocks.{defines};
+ghost use Rattle.map_blocks.specs.Deeds.{are_near, can_lift, command_lifts, could_lift, deed_with, freed, frees_place, is_any_word, is_ground, is_known_word, is_meant, is_meant_as, may_add_sector, may_add_thing, may_change, may_draw, may_free, may_turn, one_could_lift, one_defines, one_frees};
+
+use map_script::{ScriptLines, command_of, define_words, first_word};
+
+/// What a command does to the maps.
+#[derive(Clone, Copy)]
+pub enum Deed {
+    /// Nothing.
+    Reads,
+    /// It adds a sector, and perhaps other items than things.
+    AddsSector,
+    /// It adds a thing.
+    AddsThing,
+    /// It changes a thing, or takes one away.
+    SetsThing,
+    /// It adds or changes other items than things, and frees the place of no vertex.
+    Draws,
+    /// It may free the place of a vertex.
+    Frees,
+    /// It may make another map the current one, or give one another name.
+    Turns,
+}
+
+/// What a line was refused for, so far as earlier lines can be the reason.
+#[derive(Clone, Copy)]
+pub enum Ground {
+    /// Its own words.
+    Nothing,
+    /// How many sectors there are.
+    Sectors,
+    /// How many things there are.
+    Things,
+    /// That a vertex has the place.
+    Place,
+    /// What is drawn, but things.
+    Drawn,
+    /// Which maps there are.
+    MapNames,
+    /// Anything that a command changes.
+    Anything,
+}
+
+/// What the commands do that begin with these words, and the other lines of a script.
+pub const DEEDS: &[(&[u8], Deed)] = &[
+    (b"name", Deed::Turns),
+    (b"map", Deed::Turns),
+    (b"drop-map", Deed::Turns),
+    (b"vertex", Deed::Draws),
+    (b"sector", Deed::AddsSector),
+    (b"side", Deed::Draws),
+    (b"line", Deed::Draws),
+    (b"thing", Deed::AddsThing),
+    (b"move-vertex", Deed::Frees),
+    (b"set-sector", Deed::Draws),
+    (b"set-side", Deed::Draws),
+    (b"set-line", Deed::Draws),
+    (b"set-thing", Deed::SetsThing),
+    (b"drop", Deed::Frees),
+    (b"room", Deed::AddsSector),
+    (b"split", Deed::Draws),
+    (b"area", Deed::AddsSector),
+    (b"pillar", Deed::Draws),
+    (b"door", Deed::Draws),
+    (b"change", Deed::Frees),
+    (b"check", Deed::Reads),
+    (b"count", Deed::Reads),
+    (b"maps", Deed::Reads),
+    (b"build", Deed::Reads),
+    (b"hex", Deed::Reads),
+    (b"let", Deed::Reads),
+    (b"for", Deed::Reads),
+    (b"at", Deed::Reads),
+    (b"define", Deed::Reads),
+    (b"end", Deed::Reads),
+    (b"include", Deed::Reads),
+];
+
+// ---- What a command does
+
+// Whether a command may draw something that is no thing, or take it away.
+fn may_draw(deed: Deed) -> bool
+    ensures { result ≡ may_draw deed }
+{
+    match deed {
+        Deed::AddsSector | Deed::Draws | Deed::Frees | Deed::Turns => true,
+        Deed::Reads | Deed::AddsThing | Deed::SetsThing => false,
+    }
+}
+
+// Whether the place of a vertex may be free behind a command.
+fn may_free(deed: Deed) -> bool
+    ensures { result ≡ may_free deed }
+{
+    match deed {
+        Deed::Frees | Deed::Turns => true,
+        _ => false,
+    }
+}
+
+// Whether another map may be the current one behind a command, or have another name.
+fn may_turn(deed: Deed) -> bool
+    ensures { result ≡ may_turn deed }
+{
+    match deed {
+        Deed::Turns => true,
+        _ => false,
+    }
+}
+
+// Whether there may be a sector more behind a command.
+fn may_add_sector(deed: Deed) -> bool
+    ensures { result ≡ may_add_sector deed }
+{
+    match deed {
+        Deed::AddsSector | Deed::Turns => true,
+        _ => false,
+    }
+}
+
+// Whether there may be a thing more behind a command.
+fn may_add_thing(deed: Deed) -> bool
+    ensures { result ≡ may_add_thing deed }
+{
+    match deed {
+        Deed::AddsThing | Deed::Turns => true,
+        _ => false,
+    }
+}
+
+// Whether a command changes or adds something.
+fn may_change(deed: Deed) -> bool
+    ensures { result ≡ may_change deed }
+{
+    match deed {
+        Deed::Reads => false,
+        _ => true,
+    }
+}
+
+// Whether what was refused on a ground might not be behind a command.
+fn can_lift(ground: Ground, deed: Deed) -> bool
+    ensures { result ≡ can_lift ground deed }
+{
+    match ground {
+        Ground::Nothing => false,
+        Ground::Sectors => may_add_sector(deed),
+        Ground::Things => may_add_thing(deed),
+        Ground::Place => may_free(deed),
+        Ground::Drawn => may_draw(deed),
+        Ground::MapNames => may_turn(deed),
+        Ground::Anything => may_change(deed),
+    }
+}
+
+// ---- Which command a line is
+
+// Whether two words are one, but for a letter at most.
+fn are_near(one: &[u8], other: &[u8]) -> bool
+    ensures { result ≡ are_near one.now other.now }
+{
+    match one {
+        [] => other.len() <= 1,
+        [a, rest @ ..] => match other {
+            [] => one.len() <= 1,
+            [b, more @ ..] => {
+                if *a == *b {
+                    are_near(rest, more)
+                } else {
+                    rest == more || one == more || rest == other
+                }
+            }
+        },
+    }
+}
+
+// What a command that may free a place does to an item of this kind.
+fn freed(kind: &[u8]) -> Deed
+    ensures { result ≡ freed kind.now }
+{
+    if kind == b"thing".as_slice() {
+        Deed::SetsThing
+    } else if kind == b"sector".as_slice()
+        || kind == b"side".as_slice()
+        || kind == b"line".as_slice()
+    {
+        Deed::Draws
+    } else {
+        Deed::Frees
+    }
+}
+
+// What a command does, by what its first word says and by its second word.
+fn deed_with(deed: Deed, second: &[u8]) -> Deed
+    ensures { result ≡ deed_with deed second.now }
+{
+    match deed {
+        Deed::Frees => freed(second),
+        other => other,
+    }
+}
+
+// Whether a word is one with which one of these commands begins.
+fn is_among(deeds: &[(&[u8], Deed)], word: &[u8]) -> bool
+    ensures { result ≡ list_any (λ d. bytes_eq d.0.now word.now) deeds.now }
+{
+    deeds.iter().any(|d| d.0 == word)
+}
+
+// Whether a word is one with which a command begins.
+#[tactic(auto, unfolding(crate::specs::Deeds::is_known_word))]
+fn is_known_word(word: &[u8]) -> bool
+    ensures { result ≡ is_known_word word.now }
+{
+    is_among(DEEDS, word)
+}
+
+// Whether a word is meant as one of the language.
+fn is_meant_as(word: &[u8], own: &[u8]) -> bool
+    ensures { result ≡ is_meant_as word.now own.now }
+{
+    own == word || (!is_known_word(word) && are_near(own, word))
+}
+
+// Whether a word is meant as one of these.
+fn is_meant_among(deeds: &[(&[u8], Deed)], word: &[u8]) -> bool
+    ensures { result ≡ list_any (λ d. is_meant_as word.now d.0.now) deeds.now }
+{
+    deeds.iter().any(|d| is_meant_as(word, d.0))
+}
+
+// Whether a word is meant as one with which a command begins.
+#[tactic(auto, unfolding(crate::specs::Deeds::is_meant))]
+fn is_meant(word: &[u8]) -> bool
+    ensures { result ≡ is_meant word.now }
+{
+    is_meant_among(DEEDS, word)
+}
+
+// Whether a command, if it is one of these, could lift what was refused on a ground.
+fn lifts_among(deeds: &[(&[u8], Deed)], ground: Ground, first: &[u8], second: &[u8]) -> bool
+    ensures { result ≡ list_any (λ d. is_meant_as first.now d.0.now
+        && can_lift ground (deed_with d.1 second.now)) deeds.now }
+{
+    deeds.iter().any(|d| is_meant_as(first, d.0) && can_lift(ground, deed_with(d.1, second)))
+}
+
+// Whether a command of these two first words could lift what was refused on a ground.
+#[tactic(auto, unfolding(crate::specs::Deeds::command_lifts))]
+fn command_lifts(ground: Ground, first: &[u8], second: &[u8]) -> bool
+    ensures { result ≡ command_lifts ground first.now second.now }
+{
+    lifts_among(DEEDS, ground, first, second)
+}
+
+// Whether a line defines a shape.
+fn defines(line: &[u8]) -> bool
+    ensures { result ≡ defines line.now }
+{
+    define_words(line).is_some()
+}
+
+// Whether one of some lines defines a shape.
+fn one_defines(lines: &ScriptLines) -> bool
+    ensures { result ≡ one_defines lines.now }
+{
+    for place in 0..lines.len() {
+        if defines(lines.line(place).text) {
+            return true;
+        }
+    }
+    false
+}
+
+// Whether a word may be meant as anything.
+fn is_any_word(lines: &ScriptLines, word: &[u8]) -> bool
+    ensures { result ≡ is_any_word lines.now word.now }
+{
+    !is_known_word(word) && (one_defines(lines) || !is_meant(word))
+}
+
+fn is_ground(ground: Ground) -> bool
+    ensures { result ≡ is_ground ground }
+{
+    match ground {
+        Ground::Nothing => false,
+        _ => true,
+    }
+}
+
+// Whether a line of a script, once it is mended, could lift what was refused on a ground.
+fn could_lift(lines: &ScriptLines, ground: Ground, line: &[u8]) -> bool
+    ensures { result ≡ could_lift lines.now ground line.now }
+{
+    let (first, rest) = first_word(command_of(line));
+    let (second, _) = first_word(rest);
+    is_ground(ground) && (is_any_word(lines, first) || command_lifts(ground, first, second))
+}
+
+/// Whether one of some lines of a script, once it is mended, could lift what was refused on a ground.
+pub fn one_could_lift(lines: &ScriptLines, ground: Ground, out: &ScriptLines) -> bool
+    ensures { result ≡ one_could_lift lines.now ground out.now }
+{
+    for place in 0..out.len() {
+        if could_lift(lines, ground, out.line(place).text) {
+            return true;
+        }
+    }
+    false
+}
+
+// Whether a word begins with a `$`.
+fn is_dollar_word(word: &[u8]) -> bool
+    ensures { result ≡ (slice_index word.now 0 == 36) }
+{
+    match word {
+        [b, ..] => *b == b'$',
+        [] => false,
+    }
+}
+
+// Whether a line that isn't refused may free the place of a vertex.
+fn frees_place(line: &[u8]) -> bool
+    ensures { result ≡ frees_place line.now }
+{
+    let (first, rest) = first_word(command_of(line));
+    let (second, _) = first_word(rest);
+    is_dollar_word(first) || (is_known_word(first) && command_lifts(Ground::Place, first, second))
+}
+
+/// Whether one of some lines may free the place of a vertex.
+pub fn one_frees(lines: &ScriptLines) -> bool
+    ensures { result ≡ one_frees lines.now }
+{
+    for place in 0..lines.len() {
+        if frees_place(lines.line(place).text) {
+            return true;
+        }
+    }
+    false
+}

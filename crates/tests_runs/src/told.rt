@@ -1,0 +1,114 @@
+//! Which refused lines of a script are told behind the first one.
+ghost use Rattle.std.specs.Prelude.{◌≡◌, IfOk, length};
+
+use crate::expect::same;
+use map_script::{DrawError, Names, ScriptFiles, ScriptLines, script_lines};
+use run_canvas::{Canvas, Draft};
+use run_script::draw;
+use run_stops::further_told;
+use std::alloc::Global;
+use std::test::Fail;
+
+// The file in which each line stands: all in one.
+fn files_of(alloc: Global, lines: &ScriptLines) -> Result<ScriptFiles, DrawError>
+    ensures { IfOk result (λ files. length files ≡ length lines.now) }
+{
+    let mut files = ScriptFiles::new(alloc);
+    files.put(alloc, "s", lines.len())?;
+    Ok(files)
+}
+
+// The lines of a text that don't begin with a space.
+fn heads(alloc: Global, text: &[u8]) -> Result<Vec<u8>, Fail> {
+    let mut found = Vec::new(alloc);
+    let mut begins = true;
+    let mut is_kept = true;
+    for b in text {
+        if begins {
+            is_kept = *b != b' ';
+        }
+        if is_kept {
+            found.push(*b)?;
+        }
+        begins = *b == b'\n';
+    }
+    Ok(found)
+}
+
+// What is told of the lines behind the first refused one of a script that is drawn over the empty map, without the
+// reasons.
+fn further(alloc: Global, script: &[u8]) -> Result<Vec<u8>, Fail> {
+    let lines = script_lines(alloc, script)?;
+    let files = files_of(alloc, &lines)?;
+    let mut draft = Draft::new(alloc);
+    let mut names = Names::new(alloc);
+    let mut out = Vec::new(alloc);
+    let Some(stop) = draw(alloc, &mut draft, &mut names, &lines, false, &mut out)? else {
+        return Err(Fail::from("no line was refused"));
+    };
+    let first = Draft::new(alloc);
+    let told = further_told(alloc, first.maps(), first.cap(), &lines, &files, &stop)?;
+    heads(alloc, &told)
+}
+
+// Scripts, and which lines are told behind the first refused one.
+#[rattlefmt::skip]
+const SCRIPTS: &[(&[u8], &[u8])] = &[
+    // a place that is taken: nothing that was left out frees it, or something might
+    (b"room 0 0 64 64 0 128 FLOOR4_8 CEIL3_5 STARTAN3 160\nvertx 300 300\nvertex 0 0",
+        b"s:3: vertex 0 0: 10 PlaceTaken\n"),
+    (b"vertex 0 0\nvertx 9 9\nroom 0 0 64 64 0 128 FLOOR4_8 CEIL3_5 STARTAN3 160",
+        b"s:3: room 0 0 64 64 0 128 FLOOR4_8 CEIL3_5 STARTAN3 160: 10 PlaceTaken\n"),
+    (b"vertex 0 0\ndrop line 5\nvertex 0 0", b"s:3: vertex 0 0: 10 PlaceTaken\n"),
+    (b"vertex 0 0\ndrop vertx 0\nvertex 0 0", b""),
+    (b"vertex 0 0\ndrp vertex 0\nvertex 0 0", b""),
+    (b"vertex 0 0\nremove vertex 0\nvertex 0 0", b""),
+    (b"vertex 0 0\nmove-vertex 0 99999 0\nvertex 0 0", b""),
+    (b"vertx 9 9\nvertex 0 0\nvertex 1 1\nmove-vertex 1 2 2\nvertex 0 0", b""),
+    (b"vertex 0 0\nvertex 8 8\nvertx 9 9\nmove-vertex 0 8 8", b""),
+    (b"vertex 0 0\nvertex 8 8\nthing 0 0 400 1 7\nmove-vertex 0 8 8", b"s:4: move-vertex 0 8 8: 10 PlaceTaken\n"),
+    // how many items there are
+    (b"vertx 0 0\nline 0 1 1 0 0 0 -", b""),
+    (b"thing 0 0 400 1 7\nline 0 1 1 0 0 0 -", b"s:2: line 0 1 1 0 0 0 -: 3 NoVertex\n"),
+    (b"vertx 0 0\nside 0 0 - - - 0", b"s:2: side 0 0 - - - 0: 4 NoSector\n"),
+    (b"secter 0 128 FLOOR4_8 CEIL3_5 160 0 0\nside 0 0 - - - 0", b""),
+    (b"vertx 0 0\ndrop thing 0", b"s:2: drop thing 0: 7 NoThing\n"),
+    (b"thng 0 0 0 1 7\ndrop thing 0", b""),
+    // the words alone
+    (b"room 0 0 64 64 0 128 FLOOR4_8 CEIL3_5 STARTAN3 160\nvertx 1 1\nline 0 0 1 0 0 0 -\nline 0 1 4 0 0 0 -\n\
+        thing 0 0 400 1 7",
+        b"s:3: line 0 0 1 0 0 0 -: 9 SameEnds\ns:4: line 0 1 4 0 0 0 -: 11 TwoSidedWithoutLeft\n\
+        s:5: thing 0 0 400 1 7: 2 OutOfRange\n"),
+    (b"room 0 0 64 64 0 128 FLOOR4_8 CEIL3_5 STARTAN3 160\nvertx 1 1\nchange line 0 FLAGS=4", b""),
+    (b"vertx 0 0\nlet far 99999\nvertex $far 0", b"s:3: vertex $far 0: 2 OutOfRange\n"),
+    (b"vertx 0 0\nfor k 1 1\nthing 0 0 400*$k 1 7\nend", b"s:3: thing 0 0 400*$k 1 7: 2 OutOfRange\n"),
+    (b"vertx 0 0\nv = vertex 5 5\nthing 0 0 400+$v*1 1 7", b""),
+    (b"vertx 0 0\nat 16383 0\nvertex 1 0\nend", b"s:3: vertex 1 0: 2 OutOfRange\n"),
+    (b"vertx 0 0\nv = vertex 5 5\nat 16370+$v*1 0\nvertex 99 0\nend", b""),
+    // names
+    (b"vertx 0 0\nvertex $gap 0", b"s:2: vertex $gap 0: 22 UnknownName\n"),
+    (b"gap = vertx 0 0\nvertex $gap 0\nvertex $gapp 0", b"s:3: vertex $gapp 0: 22 UnknownName\n"),
+    (b"$gap = vertex 0 0\nvertex $gap 1", b""),
+    // places
+    (b"thing 0 0 400 1 7\nsplit $line(300,300) 1 1", b"s:2: split $line(300,300) 1 1: 45 NothingThere\n"),
+    (b"vertx 0 0\nsplit $line(300,300) 1 1", b""),
+    (b"thing 0 0 400 1 7\nchange thing $thing(1,1) ANGLE=0", b""),
+    // maps
+    (b"map MAP2\ndrop-map MAP03\nvertex 0 0\nvertex 0 0", b""),
+    (b"vertx 0 0\ndrop-map MAP03", b"s:2: drop-map MAP03: 18 NoSuchMap\n"),
+    // shapes
+    (b"define post\nvertex 0 0\nend\npst\npost\npost", b""),
+    (b"define post\nvertex 0 0\nend\nthing 0 0 400 1 7\npost\npost", b"s:2: vertex 0 0: 10 PlaceTaken\n"),
+    // what changes no map
+    (b"hex FOO\ndrop thing 9\nline 0 1 1 0 0 0 -",
+        b"s:2: drop thing 9: 7 NoThing\ns:3: line 0 1 1 0 0 0 -: 3 NoVertex\n"),
+];
+
+#[test]
+fn tells_the_lines_that_hang_on_no_other(rt: HostRuntime) -> Result<(), Fail> {
+    for &(script, wanted) in SCRIPTS {
+        let told = further(rt.alloc(), script)?;
+        same(&rt, &(script, told.as_slice()), &(script, wanted));
+    }
+    Ok(())
+}
