@@ -1,5 +1,5 @@
 -- Where an edge crosses a line: how far that is along the edge, if it is a whole place.
-use Rattle.std.proofs.Common.{◌≡◌, ◌<◌, ⊎_elim, add-zero, ◌%◌, refl, sym, ap, ◌∙◌, subst, ℕ, zero, suc, ◌+◌, ◌*◌, [], ◌∷◌, true, ◌&&◌, ◌||◌, arith}
+use Rattle.std.proofs.Common.{◌≡◌, ◌<◌, ⊎_elim, add-zero, ◌%◌, refl, sym, ap, ◌∙◌, ℕ, zero, suc, ◌+◌, ◌*◌, [], ◌∷◌, true, ◌&&◌, ◌||◌, arith}
 use Rattle.std.proofs.lemmas.Bool.Decides.{Decides-int_eq}
 use Rattle.std.proofs.lemmas.Int.{ints}
 use Rattle.std.proofs.lemmas.Nat.{mod-mul-add}
@@ -73,7 +73,7 @@ in_sizes u d a b s e =
 -- ---- Whole places
 
 -- a place on a line is at its straight line
-on_line : (l : PlacedLine) (p : Vertex) → is_on l p ≡ true → side_value_at l p ≡ pos 0
+pub on_line : (l : PlacedLine) (p : Vertex) → is_on l p ≡ true → side_value_at l p ≡ pos 0
 unfolding is_on
 on_line l p h =
     let box = and_both (int_eq (side_value_at l p) (pos 0) && spans_meet l.from.x l.to.x p.x p.x) (spans_meet l.from.y l.to.y p.y p.y) h in

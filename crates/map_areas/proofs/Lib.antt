@@ -10,3 +10,7 @@ pub mod Parts
 pub mod Refused
 pub mod Crossings
 pub mod Standing
+pub mod AlongLines
+pub mod Led
+pub mod InOrder
+pub mod Any

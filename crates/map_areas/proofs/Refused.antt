@@ -1,5 +1,5 @@
 -- Why a command isn't taken.
-use Rattle.std.proofs.Common.{◌≡◌, ℕ, Option, Some, None, Ok, Err}
+use Rattle.std.proofs.Common.{◌≡◌, ℕ, Option, Some, None, Err}
 use Rattle.map_commands.specs.declared.command.Command.TheVariants as command
 use Rattle.map_tables.specs.EditFaults.{edit_faults}
 use Rattle.map_tables.specs.Edits.{after_edit, edit_number, edited}

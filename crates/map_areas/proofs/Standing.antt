@@ -46,7 +46,7 @@ corner_in m es s p all h =
     ap (λ (v : Vertex). sector_of_place m v) (sym (same_place e.from p.from at.0)) ∙ ap (λ (l : PlacedLine). sector_of_place m l.from) (sym any.3) ∙ its in
     same_sector s p.sector (ap (λ (o : Option ℕ). is_same o p.sector) (sym here) ∙ b.1)
 
-both_and : (a b t : Bool) → (a ≡ true → b ≡ true → t ≡ false) → (a && b && t) ≡ false
+pub both_and : (a b t : Bool) → (a ≡ true → b ≡ true → t ≡ false) → (a && b && t) ≡ false
 both_and true true t f = f refl refl
 both_and true false t f = refl
 both_and false b t f = refl

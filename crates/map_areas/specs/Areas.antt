@@ -2,14 +2,14 @@
 use Rattle.std.specs.Prelude.{◌≡◌, ℕ, List, None, Option, false, length, true}
 use Rattle.lump_records.specs.declared.records.Vertex.{Vertex}
 use Rattle.map_commands.specs.declared.command.Command.{Command}
-use Rattle.map_plane.specs.Places.{placed_lines}
 use Rattle.map_plane.specs.declared.places.PlacedLine.{PlacedLine}
 use Rattle.map_tables.specs.Tables.{Tables}
 use Rattle.map_areas.specs.Apart.{doubled}
 use Rattle.map_areas.specs.Bordered.{IsBordered}
 use Rattle.map_areas.specs.Drawn.{AreTaken, drawn}
 use Rattle.map_areas.specs.Outlines.{JudgesRefusal, bad_corner, edges_round, outline_edges}
-use Rattle.map_areas.specs.Refusals.{CrossWhole, IsAreaRefusal, IsPillarRefusal, MayStand}
+use Rattle.map_areas.specs.Order.{ComesInOrder, MayBecome}
+use Rattle.map_areas.specs.Refusals.{IsAreaRefusal, IsPillarRefusal, MayStand}
 use Rattle.map_areas.specs.Stays.{KeepsItems, KeepsRest}
 use Rattle.map_areas.specs.declared.error.AreaError.{AreaError}
 
@@ -20,17 +20,19 @@ pub record DrawsArea (es : List PlacedLine) (old new : Tables) : Type 0 where
   pub stays : KeepsRest es round old new
   pub border : IsBordered es round (length old.sectors) old new
 
--- an area with these corners is accepted: they are a simple polygon, its edges cross lines at whole places, and the
--- commands, which are accepted in turn, draw it
+-- an area with these corners is accepted: they are a simple polygon, no reason refuses it, and the commands, which are
+-- accepted in turn, draw it
 pub record AcceptsArea (m : Tables) (cs : List Vertex) (commands : List Command) : Type 0 where
   pub polygon : bad_corner (outline_edges cs) ≡ None
-  pub whole : CrossWhole (placed_lines m) (edges_round true cs)
+  pub becomes : MayBecome m (edges_round true cs)
   pub taken : AreTaken m commands
   pub area : DrawsArea (edges_round true cs) m (drawn m commands)
 
--- an area with these corners is refused: they are no simple polygon, or the map has the reason
+-- an area with these corners is refused: they are no simple polygon, or the map has the reason, and none that comes
+-- before it
 pub record RefusesArea (m : Tables) (cs : List Vertex) (e : AreaError) : Type 0 where
   pub polygon : JudgesRefusal cs e
+  pub order : ComesInOrder m (edges_round true cs) e
   pub reason : IsAreaRefusal m (edges_round true cs) (doubled (edges_round true cs)) e
 
 -- a pillar with these corners is accepted: they are a simple polygon, no reason refuses it, and the commands are

@@ -3,10 +3,11 @@ use Rattle.std.specs.Prelude.{◌≡◌, ℕ, Bool, true, false, ◌&&◌, ◌||
 use Rattle.std.specs.List.{list_any}
 use Rattle.std.specs.Option.{option_map_or}
 use Rattle.lump_records.specs.declared.records.Vertex.{Vertex}
-use Rattle.map_plane.specs.Meeting.{is_at, is_on}
+use Rattle.map_plane.specs.Meeting.{is_at}
 use Rattle.map_plane.specs.Places.{placed_lines}
 use Rattle.map_plane.specs.declared.places.PlacedLine.{PlacedLine}
 use Rattle.map_tables.specs.Tables.{Tables}
+use Rattle.map_areas.specs.Stops.{comes_first, is_stop}
 use Rattle.map_areas.specs.Ways.{is_clear, is_left_of_way, is_same, sector_by_side, sector_on_right, way}
 
 -- there is a side with this number, and it faces the sector
@@ -39,23 +40,33 @@ is_wall_along old new sector w l =
     (leads w.from w.to l && has_on_right old new sector w l.number)
     || (leads w.to w.from l && has_on_left old new sector w l.number)
 
--- one line does so; what was on the right of the way is this sector or the void; and the way meets nothing between its
--- ends
-abbrev pub is_walled : Tables → Tables → Option ℕ → ℕ → PlacedLine → Bool
-is_walled old new round sector w = is_clear old w && is_same (sector_on_right old w) round
-    && list_any (is_wall_along old new sector w) (placed_lines new)
+-- one line does so
+abbrev pub is_walled : Tables → Tables → ℕ → PlacedLine → Bool
+is_walled old new sector w = list_any (is_wall_along old new sector w) (placed_lines new)
 
--- one line leads the whole way, or one to a place that lies on it, and lines from there on
-abbrev pub is_covered : Tables → Tables → Option ℕ → ℕ → Vertex → Vertex → List Vertex → Bool
-is_covered old new round sector from to [] = is_walled old new round sector (way from to)
-is_covered old new round sector from to (p ∷ ps) = is_on (way from to) p
-    && is_walled old new round sector (way from p) && is_covered old new round sector p to ps
+-- a way along an edge from one place to a further one: it meets nothing between its ends, and on its right is what is
+-- told, a sector or the void
+abbrev pub is_led_to : Tables → Option ℕ → PlacedLine → Vertex → Vertex → Bool
+is_led_to m round e from to = comes_first e from to && is_clear m (way from to)
+    && is_same (sector_on_right m (way from to)) round
 
--- lines lead along the edge from end to end, with the new sector on its right in place of what was round, and on its
+-- so the rest of an edge from a place on, over these stops
+abbrev pub is_led : Tables → Option ℕ → PlacedLine → Vertex → List Vertex → Bool
+is_led m round e from [] = is_led_to m round e from e.to
+is_led m round e from (p ∷ ps) =
+    (is_stop m e p && is_led_to m round e from p) && is_led m round e p ps
+
+-- lines lead so along the rest of an edge, from each of these places to the next one
+abbrev pub are_walled : Tables → Tables → ℕ → PlacedLine → Vertex → List Vertex → Bool
+are_walled old new sector e from [] = is_walled old new sector (way from e.to)
+are_walled old new sector e from (p ∷ ps) =
+    is_walled old new sector (way from p) && are_walled old new sector e p ps
+
+-- lines lead along the edge from stop to stop, with the new sector on its right in place of what was round, and on its
 -- left what was there
 abbrev pub IsCovered : Tables → Tables → Option ℕ → ℕ → PlacedLine → Type 0
-IsCovered old new round sector e =
-    (ps : List Vertex) × (is_covered old new round sector e.from e.to ps ≡ true)
+IsCovered old new round sector e = (ps : List Vertex) × (is_led old round e e.from ps ≡ true)
+    × (are_walled old new sector e e.from ps ≡ true)
 
 -- lines cover each edge so
 abbrev pub IsBordered : List PlacedLine → Option ℕ → ℕ → Tables → Tables → Type 0

@@ -8,3 +8,6 @@ pub mod Ways
 pub mod Bordered
 pub mod Areas
 pub mod Refusals
+pub mod Stops
+pub mod Cuts
+pub mod Order

@@ -14,7 +14,8 @@ use Rattle.map_areas.specs.declared.error.AreaError.TheVariants.{Crossing, NotAP
 use Rattle.map_areas.specs.declared.error.Part.{Part}
 use Rattle.map_areas.specs.Apart.{place_sum}
 use Rattle.map_areas.specs.Drawn.{RefusesInTurn}
-use Rattle.map_areas.specs.Ways.{crosses_way, is_clear, is_same, runs_along, runs_with, sector_on_right, way}
+use Rattle.map_areas.specs.Stops.{is_between_stops}
+use Rattle.map_areas.specs.Ways.{crosses_way, is_clear, is_same, sector_on_right, way}
 use Rattle.map_tables.specs.Errors.{code_of}
 
 -- two lines have a point in common: they cross, or an end of one lies on the other
@@ -133,15 +134,11 @@ IsOfSectors (SeveralSectors first second) = Unit {0}
 IsOfSectors OutOfRange = Unit {0}
 IsOfSectors e = ⊥
 
--- a way leads along an edge, and in its direction
-abbrev pub leads_along : PlacedLine → PlacedLine → Bool
-leads_along w e = runs_along w e && runs_with w e && not (is_at w.from w.to)
-
--- a part of the border leads along an edge, meets nothing between its ends, and has on its right, which is inside, the
--- sector that is told, or the void
+-- a part of the border leads along an edge from stop to stop, meets nothing between, and has on its right, which is
+-- inside, the sector that is told, or the void
 abbrev pub is_border_part : Tables → List PlacedLine → Part → Bool
-is_border_part m es p = list_any (leads_along (way p.from p.to)) es && is_clear m (way p.from p.to)
-    && is_same (sector_on_right m (way p.from p.to)) p.sector
+is_border_part m es p = list_any (is_between_stops m (way p.from p.to)) es
+    && is_clear m (way p.from p.to) && is_same (sector_on_right m (way p.from p.to)) p.sector
 
 -- two parts of the border have different sectors inside, or one of them the void
 abbrev pub are_several : Tables → List PlacedLine → Part → Part → Bool

@@ -1,12 +1,13 @@
 //! Areas: polygons that become sectors.
 ghost use Rattle.std.specs.Prelude.{◌≡◌, ℕ, All, IfErr, IfOk, OnOk};
 ghost use Rattle.map_areas.specs.Apart.{KeepsAlone, doubled};
-ghost use Rattle.map_areas.specs.Bordered.{IsBordered};
+ghost use Rattle.map_areas.specs.Cuts.{IsLed, IsWalled, uncut};
 ghost use Rattle.map_areas.specs.Changes.{KeepsUnchanged};
 ghost use Rattle.map_areas.specs.Drawn.{AreTaken, drawn};
 ghost use Rattle.map_areas.specs.Errors.{IsOfMap, IsOfRange};
 ghost use Rattle.map_areas.specs.Areas.{AcceptsArea, DrawsArea, RefusesArea};
-ghost use Rattle.map_areas.specs.Refusals.{CrossWhole, IsAreaRefusal};
+ghost use Rattle.map_areas.specs.Order.{ComesAfterSectors, ComesInOrder, IsOfRound, MayBecome};
+ghost use Rattle.map_areas.specs.Refusals.{IsAreaRefusal};
 ghost use Rattle.map_areas.specs.Stays.{BecomesLine, BecomesSide, EachBecomes};
 ghost use Rattle.map_commands.specs.Step.{InRange};
 ghost use Rattle.map_plane.specs.Places.{placed_lines};
@@ -49,7 +50,11 @@ fn find_round(
     requires vertices { ground.now.vertices.items ≡ map.now.tables.vertices }
     requires lines { ground.now.lines.items ≡ placed_lines map.now.tables }
     requires doubled { ground.now.doubled.items ≡ doubled (placed_lines map.now.tables) }
-    ensures refused { IfErr result IsOfMap }
+    requires edges { uncut border.now.cut_edges.items ≡ border.now.edges.items }
+    ensures led { IfOk result (λ round. All (IsLed map.now.tables round)
+        border.now.cut_edges.items) }
+    ensures refused { IfErr result IsOfRound }
+    ensures order { IfErr result (ComesAfterSectors map.now.tables border.now.edges.items) }
     ensures reason { IfErr result (IsAreaRefusal map.now.tables border.now.edges.items
         border.now.doubled.items) }
 {
@@ -91,7 +96,6 @@ fn look_at(
 ) -> Result<(), AreaError>
     requires well_formed { WellFormed map.now.tables }
     requires others { KeepsUnchanged changing.now map.now.tables new.now.tables }
-    requires vertices { ground.now.vertices.items ≡ map.now.tables.vertices }
     requires lines { ground.now.lines.items ≡ placed_lines map.now.tables }
     requires doubled { ground.now.doubled.items ≡ doubled (placed_lines map.now.tables) }
     ensures sides { OnOk result (EachBecomes (BecomesSide paint.now.round paint.now.sector)
@@ -100,14 +104,14 @@ fn look_at(
         (EachBecomes BecomesLine map.now.tables.lines new.now.tables.lines) }
     ensures alone { OnOk result ((n : ℕ) → KeepsAlone border.now.edges.items
         border.now.doubled.items map.now.tables new.now.tables n) }
-    ensures border { OnOk result (IsBordered border.now.edges.items paint.now.round
-        paint.now.sector map.now.tables new.now.tables) }
+    ensures walled { OnOk result (All (IsWalled map.now.tables new.now.tables paint.now.sector)
+        border.now.cut_edges.items) }
     ensures refused { IfErr result IsOfRange }
 {
     find_kept(map, new, paint.round, paint.sector, changing)?;
     find_alone(map, new, border, changing)?;
     let lines = placed_lines(alloc, new)?;
-    find_bordered(map, ground, new, &lines, paint, border)
+    find_bordered(map, ground, new, &lines, paint.sector, border)
 }
 
 // The commands that draw the area, whose edges run clockwise, into the map.
@@ -121,13 +125,14 @@ fn commands_within(
     ensures taken { IfOk result (λ commands. AreTaken map.now.tables commands.items) }
     ensures area { IfOk result (λ commands.
         DrawsArea edges.items map.now.tables (drawn map.now.tables commands.items)) }
-    ensures whole { OnOk result (CrossWhole (placed_lines map.now.tables) edges.items) }
+    ensures becomes { OnOk result (MayBecome map.now.tables edges.items) }
     ensures refused { IfErr result IsOfMap }
+    ensures order { IfErr result (ComesInOrder map.now.tables edges.items) }
     ensures reason { IfErr result (IsAreaRefusal map.now.tables edges.items
         (doubled edges.items)) }
 {
     let ground = ground_of(alloc, map)?;
-    let border = border_of(alloc, map, &ground.lines, edges)?;
+    let border = border_of(alloc, map, &ground, edges)?;
     let round = find_round(alloc, map, &ground, &border)?;
     let mut drawing = drawing_of(alloc, map)?;
     drawing.cut_lines(alloc, &ground.lines, &border)?;

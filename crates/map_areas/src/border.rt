@@ -1,27 +1,36 @@
 //! The border of a polygon: its edges, and the places at which they are cut.
-ghost use Rattle.std.specs.Prelude.{◌≡◌, ◌≤◌, ◌&&◌, ℕ, IfErr, IfOk, OnOk, Some, slice_get, true};
+ghost use Rattle.std.specs.Prelude.{◌≡◌, ◌≤◌, ◌&&◌, ℕ, IfErr, IfOk, OnOk, true};
 ghost use Rattle.map_areas.specs.Apart.{doubled, doubled_line, place_sum};
-ghost use Rattle.map_areas.specs.Errors.{IsOfMap};
+ghost use Rattle.map_areas.specs.Cuts.{uncut};
+ghost use Rattle.map_areas.specs.Order.{IsOfCrossing};
 ghost use Rattle.map_areas.specs.Refusals.{AreEdgesRefused, CrossWhole, CrossesBetween, IsAreaRefusal, IsCrossingRefusal, IsEdgeRefusal, holds_middle};
 ghost use Rattle.map_areas.specs.Ways.{crosses_way};
 ghost use Rattle.map_plane.specs.Meeting.{is_on};
 ghost use Rattle.map_plane.specs.Places.{placed_lines};
-ghost use Rattle.map_plane.specs.declared.places.PlacedLine.{PlacedLine};
 
 use crate::crossing::{may_meet, near_crossing};
 use crate::cuts::put_along;
 use crate::error::AreaError;
-use crate::ways::{crosses_way, is_between};
+use crate::ways::{Ground, crosses_way, is_between};
 use lump_records::Vertex;
 use map_plane::{PlacedLine, is_inside, is_on, is_on_any};
 use map_tables::{Kind, Map};
 use std::alloc::{AllocError, Global};
 
-/// The edges of a polygon, clockwise, the same at twice the size, and the places at which they are cut, in order.
+/// An edge of a polygon, and the places between its ends at which it is cut, in order.
+#[derive(Drop)]
+pub(crate) struct CutEdge {
+    pub edge: PlacedLine,
+    pub cuts: Vec<Vertex>,
+}
+
+/// The edges of a polygon, clockwise, the same at twice the size, the same with where each is cut, and the places at
+/// which they begin or are cut, in order.
 #[derive(Drop)]
 pub(crate) struct Border {
     pub edges: Vec<PlacedLine>,
     pub doubled: Vec<PlacedLine>,
+    pub cut_edges: Vec<CutEdge>,
     pub stops: Vec<Vertex>,
 }
 
@@ -77,11 +86,14 @@ fn crossing(edge: &PlacedLine, line: &PlacedLine, number: u16) -> Result<Vertex,
 }
 
 // Adds the vertices that lie between the ends of the edge.
-fn put_vertices(stops: &mut Vec<Vertex>, map: &Map, edge: &PlacedLine) -> Result<(), AllocError> {
-    for n in 0..map.count(Kind::Vertex) {
-        let vertex = map.vertex(n).unwrap();
-        if is_between(edge, vertex) {
-            put_along(stops, edge, vertex)?;
+fn put_vertices(
+    cuts: &mut Vec<Vertex>,
+    vertices: &[Vertex],
+    edge: &PlacedLine,
+) -> Result<(), AllocError> {
+    for vertex in vertices {
+        if is_between(edge, *vertex) {
+            put_along(cuts, edge, *vertex)?;
         }
     }
     Ok(())
@@ -129,87 +141,80 @@ fn put_crossings(
     Ok(())
 }
 
-// Where the edge is cut, in order: its start, the vertices on it, and its crossings with lines.
-fn stops_of(
+// The edge, cut at the vertices on it and at its crossings with lines.
+fn cut_edge(
     alloc: Global,
     map: &Map,
-    lines: &[PlacedLine],
+    ground: &Ground,
     edge: &PlacedLine,
-) -> Result<Vec<Vertex>, AreaError>
-    requires { lines.now ≡ placed_lines map.now.tables }
-    ensures whole { OnOk result ((n : ℕ) → CrossesBetween lines.now edge.now n → ⊥) }
-    ensures refused { IfErr result (IsEdgeRefusal lines.now edge.now) }
+) -> Result<CutEdge, AreaError>
+    requires lines { ground.now.lines.items ≡ placed_lines map.now.tables }
+    ensures edge { IfOk result (λ cut. cut.edge ≡ edge.now) }
+    ensures whole { OnOk result
+        ((n : ℕ) → CrossesBetween (placed_lines map.now.tables) edge.now n → ⊥) }
+    ensures refused { IfErr result (IsEdgeRefusal (placed_lines map.now.tables) edge.now) }
 {
-    let mut stops = Vec::new(alloc);
-    stops.push(edge.from)?;
-    put_vertices(&mut stops, map, edge)?;
-    put_crossings(&mut stops, map, lines, edge)?;
-    Ok(stops)
+    let mut cuts = Vec::new(alloc);
+    put_vertices(&mut cuts, &ground.vertices, edge)?;
+    put_crossings(&mut cuts, map, &ground.lines, edge)?;
+    Ok(CutEdge { edge: *edge, cuts })
 }
 
-// Adds where the edge with this index is cut.
-fn put_stops(
-    alloc: Global,
-    all: &mut Vec<Vertex>,
-    map: &Map,
-    lines: &[PlacedLine],
-    edges: &[PlacedLine],
-    index: usize,
-) -> Result<(), AreaError>
-    requires { lines.now ≡ placed_lines map.now.tables }
-    ensures whole { OnOk result ((e : PlacedLine) → slice_get edges.now index ≡ Some e
-        → (n : ℕ) → CrossesBetween lines.now e n → ⊥) }
-    ensures refused { IfErr result (AreEdgesRefused lines.now edges.now) }
-{
-    let Some(edge) = edges.get(index) else {
-        return Ok(());
-    };
-    let stops = stops_of(alloc, map, lines, edge)?;
-    all.extend_from_slice(&stops)?;
-    Ok(())
-}
-
-// Where the edges are cut, in order round the polygon.
-fn all_stops(
+// The edges, in order round the polygon, each with where it is cut.
+fn cut_all(
     alloc: Global,
     map: &Map,
-    lines: &[PlacedLine],
+    ground: &Ground,
     edges: &[PlacedLine],
-) -> Result<Vec<Vertex>, AreaError>
-    requires { lines.now ≡ placed_lines map.now.tables }
-    ensures whole { OnOk result (CrossWhole lines.now edges.now) }
-    ensures refused { IfErr result (AreEdgesRefused lines.now edges.now) }
+) -> Result<Vec<CutEdge>, AreaError>
+    requires lines { ground.now.lines.items ≡ placed_lines map.now.tables }
+    ensures edges { IfOk result (λ cut. uncut cut.items ≡ edges.now) }
+    ensures whole { OnOk result (CrossWhole (placed_lines map.now.tables) edges.now) }
+    ensures refused { IfErr result (AreEdgesRefused (placed_lines map.now.tables) edges.now) }
 {
-    let mut all = Vec::new(alloc);
-    for index in 0..edges.len() {
-        match put_stops(alloc, &mut all, map, lines, edges, index) {
-            Ok(()) => {}
+    let mut all = Vec::with_capacity(alloc, edges.len())?;
+    for edge in edges {
+        match cut_edge(alloc, map, ground, edge) {
+            Ok(cut) => all.push(cut)?,
             Err(error) => return Err(error),
         }
     }
     Ok(all)
 }
 
+// Where the edges are cut, in order round the polygon, and where they begin.
+fn stops_of(alloc: Global, cut_edges: &[CutEdge]) -> Result<Vec<Vertex>, AllocError> {
+    let mut stops = Vec::new(alloc);
+    for cut in cut_edges {
+        stops.push(cut.edge.from)?;
+        stops.extend_from_slice(&cut.cuts)?;
+    }
+    Ok(stops)
+}
+
 /// The border of the polygon with these edges. Refused if an edge crosses a line at no whole place.
 pub(crate) fn border_of(
     alloc: Global,
     map: &Map,
-    lines: &[PlacedLine],
+    ground: &Ground,
     edges: Vec<PlacedLine>,
 ) -> Result<Border, AreaError>
-    requires { lines.now ≡ placed_lines map.now.tables }
+    requires lines { ground.now.lines.items ≡ placed_lines map.now.tables }
     ensures edges { IfOk result (λ border. border.edges.items ≡ edges.items) }
     ensures doubled { IfOk result (λ border. border.doubled.items ≡ doubled edges.items) }
+    ensures cut_edges { IfOk result (λ border. uncut border.cut_edges.items ≡ edges.items) }
     ensures whole { OnOk result (CrossWhole (placed_lines map.now.tables) edges.items) }
-    ensures refused { IfErr result IsOfMap }
+    ensures refused { IfErr result IsOfCrossing }
     ensures reason { IfErr result
         (IsAreaRefusal map.now.tables edges.items (doubled edges.items)) }
 {
     let doubled = twice(alloc, &edges)?;
-    let stops = all_stops(alloc, map, lines, &edges)?;
+    let cut_edges = cut_all(alloc, map, ground, &edges)?;
+    let stops = stops_of(alloc, &cut_edges)?;
     Ok(Border {
         edges,
         doubled,
+        cut_edges,
         stops,
     })
 }

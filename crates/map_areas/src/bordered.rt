@@ -1,19 +1,17 @@
 //! The border of what was drawn, looked at in the map that the commands leave.
-ghost use Rattle.std.specs.Prelude.{◌≡◌, All, IfErr, OnOk};
+ghost use Rattle.std.specs.Prelude.{◌≡◌, All, IfErr, IsTrue, OnOk};
 ghost use Rattle.std.specs.List.{list_any};
 ghost use Rattle.map_areas.specs.Apart.{doubled};
-ghost use Rattle.map_areas.specs.Bordered.{divides, faces_sector, has_on_left, has_on_right, is_covered, is_wall_along, is_walled, leads, IsCovered};
+ghost use Rattle.map_areas.specs.Bordered.{divides, faces_sector, has_on_left, has_on_right, is_wall_along, is_walled, leads};
+ghost use Rattle.map_areas.specs.Cuts.{IsWalled};
 ghost use Rattle.map_areas.specs.Errors.{IsOfRange};
 ghost use Rattle.map_plane.specs.Places.{placed_lines};
 
-use crate::border::Border;
-use crate::drawing::Paint;
+use crate::border::{Border, CutEdge};
 use crate::error::AreaError;
-use crate::ways::{
-    Ground, is_clear, is_left_of_way, is_same, sector_by_side, sector_on_right, way,
-};
+use crate::ways::{Ground, is_left_of_way, sector_by_side, way};
 use lump_records::Vertex;
-use map_plane::{PlacedLine, is_at, is_on};
+use map_plane::{PlacedLine, is_at};
 use map_tables::Map;
 
 // Whether there is a side with this number that faces the sector.
@@ -127,90 +125,70 @@ fn has_wall(
         .any(|line| is_wall_along(old, ground, new, sector, way, line))
 }
 
-// Whether one line does so, what was round the border is on the right of the way, and the way meets nothing between its
-// ends.
+// The same of the map's lines: the new ones, most of which lead along the border, are looked at first.
 fn is_walled(
     old: &Map,
     ground: &Ground,
     new: &Map,
     lines: &[PlacedLine],
-    paint: &Paint,
+    sector: u16,
     way: &PlacedLine,
 ) -> bool
-    requires vertices { ground.now.vertices.items ≡ old.now.tables.vertices }
     requires lines { ground.now.lines.items ≡ placed_lines old.now.tables }
     requires doubled { ground.now.doubled.items ≡ doubled (placed_lines old.now.tables) }
     requires new_lines { lines.now ≡ placed_lines new.now.tables }
-    ensures { result
-        ≡ is_walled old.now.tables new.now.tables paint.now.round paint.now.sector way.now }
+    ensures { result ≡ is_walled old.now.tables new.now.tables sector way.now }
 {
-    is_clear(old, ground, way)
-        && is_same(sector_on_right(old, ground, way), paint.round)
-        && has_wall(old, ground, new, lines, paint.sector, way)
+    let count = ground.lines.len().min(lines.len());
+    has_wall(old, ground, new, &lines[count..], sector, way)
+        || has_wall(old, ground, new, &lines[..count], sector, way)
 }
 
-// Whether lines lead over these places along the edge.
-fn is_covered(
+// Whether lines lead so along the edge, from each of the places at which it is cut to the next one.
+fn are_walled(
     old: &Map,
     ground: &Ground,
     new: &Map,
     lines: &[PlacedLine],
-    paint: &Paint,
-    edge: &PlacedLine,
-    places: &[Vertex],
+    sector: u16,
+    cut: &CutEdge,
 ) -> bool
-    requires vertices { ground.now.vertices.items ≡ old.now.tables.vertices }
     requires lines { ground.now.lines.items ≡ placed_lines old.now.tables }
     requires doubled { ground.now.doubled.items ≡ doubled (placed_lines old.now.tables) }
     requires new_lines { lines.now ≡ placed_lines new.now.tables }
-    ensures { result ≡ is_covered old.now.tables new.now.tables paint.now.round paint.now.sector
-        edge.now.from edge.now.to places.now }
+    ensures { IsTrue result → IsWalled old.now.tables new.now.tables sector cut.now }
 {
-    let mut at = edge.from;
-    for place in places {
-        if !is_on(&way(at, edge.to), *place)
-            || !is_walled(old, ground, new, lines, paint, &way(at, *place))
-        {
+    let mut at = cut.edge.from;
+    for place in &cut.cuts {
+        if !is_walled(old, ground, new, lines, sector, &way(at, *place)) {
             return false;
         }
         at = *place;
     }
-    is_walled(old, ground, new, lines, paint, &way(at, edge.to))
+    is_walled(old, ground, new, lines, sector, &way(at, cut.edge.to))
 }
 
-// Those of the stops of a border that lie behind this one, before the place.
-fn stops_before(stops: &[Vertex], start: usize, to: Vertex) -> &[Vertex] {
-    let rest = stops.get(start.saturating_add(1)..).unwrap_or(&[]);
-    let count = rest.iter().position(|stop| is_at(*stop, to));
-    &rest[..count.unwrap_or(rest.len()).min(rest.len())]
-}
-
-/// Refuses commands that would leave a map in which no lines lead along an edge, with the sector on its right alone in
-/// place of what was round, and on its left what was there.
+/// Refuses commands that would leave a map in which no lines lead along an edge, with the sector on its right alone,
+/// and on its left what was there.
 pub(crate) fn find_bordered(
     old: &Map,
     ground: &Ground,
     new: &Map,
     lines: &[PlacedLine],
-    paint: &Paint,
+    sector: u16,
     border: &Border,
 ) -> Result<(), AreaError>
-    requires vertices { ground.now.vertices.items ≡ old.now.tables.vertices }
     requires lines { ground.now.lines.items ≡ placed_lines old.now.tables }
     requires doubled { ground.now.doubled.items ≡ doubled (placed_lines old.now.tables) }
     requires new_lines { lines.now ≡ placed_lines new.now.tables }
-    ensures covered { OnOk result
-        (All (IsCovered old.now.tables new.now.tables paint.now.round paint.now.sector)
-        border.now.edges.items) }
+    ensures walled { OnOk result
+        (All (IsWalled old.now.tables new.now.tables sector) border.now.cut_edges.items) }
     ensures refused { IfErr result IsOfRange }
 {
-    let mut start = 0usize;
-    for edge in &border.edges {
-        let stops = stops_before(&border.stops, start, edge.to);
-        if !is_covered(old, ground, new, lines, paint, edge, stops) {
+    for cut in &border.cut_edges {
+        if !are_walled(old, ground, new, lines, sector, cut) {
             return Err(AreaError::OutOfRange);
         }
-        start = start.saturating_add(stops.len()).saturating_add(1);
     }
     Ok(())
 }

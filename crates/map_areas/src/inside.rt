@@ -1,6 +1,6 @@
 //! Whether lines lie inside a border.
 ghost use Rattle.std.specs.Prelude.{◌≡◌, IfErr, IfOk, IsTrue};
-ghost use Rattle.map_areas.specs.Errors.{IsOfMap};
+ghost use Rattle.map_areas.specs.Order.{IsOfRound};
 ghost use Rattle.map_areas.specs.Refusals.{AreOfLine, HasPartInside, IsAreaRefusal, IsPartInside};
 ghost use Rattle.map_plane.specs.Places.{placed_lines};
 
@@ -54,7 +54,7 @@ pub(crate) fn find_none_inside(
     border: &Border,
 ) -> Result<(), AreaError>
     requires { lines.now ≡ placed_lines map.now.tables }
-    ensures refused { IfErr result IsOfMap }
+    ensures refused { IfErr result IsOfRound }
     ensures reason { IfErr result (IsAreaRefusal map.now.tables border.now.edges.items
         border.now.doubled.items) }
 {

@@ -17,6 +17,7 @@ mod plan;
 mod polygon;
 mod ranges;
 mod round;
+mod stops;
 mod trial;
 mod uses;
 mod walls;

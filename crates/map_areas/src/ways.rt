@@ -239,8 +239,11 @@ pub(crate) fn is_left_of_way(
     requires doubled { ground.now.doubled.items ≡ doubled (placed_lines map.now.tables) }
     ensures { result ≡ is_left_of_way map.now.tables way.now sector }
 {
-    is_faced(map, &ground.lines, way, sector)
-        || !is_lined(&ground.lines, way) && is_same(sector_between(map, ground, way), sector)
+    if is_lined(&ground.lines, way) {
+        is_faced(map, &ground.lines, way, sector)
+    } else {
+        is_same(sector_between(map, ground, way), sector)
+    }
 }
 
 /// Whether no vertex lies on the way between its ends, and no line crosses it.

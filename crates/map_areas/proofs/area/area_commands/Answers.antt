@@ -1,12 +1,10 @@
-use Rattle.std.proofs.Common.{◌≡◌, List, None, true, sym, ◌∙◌, ap, subst}
+use Rattle.std.proofs.Common.{◌≡◌, List, None, true, ◌∙◌, ap, subst}
 use Rattle.lump_records.specs.declared.records.Vertex.{Vertex}
 use Rattle.map_plane.specs.declared.places.PlacedLine.{PlacedLine}
-use Rattle.map_plane.specs.Places.{placed_lines}
-use Rattle.map_areas.specs.Apart.{doubled}
 use Rattle.map_areas.specs.Areas.{DrawsArea}
 use Rattle.map_areas.specs.Drawn.{drawn}
-use Rattle.map_areas.specs.Outlines.{JudgesRefusal, bad_corner, edges_round, outline_edges}
-use Rattle.map_areas.specs.Refusals.{CrossWhole, IsAreaRefusal}
+use Rattle.map_areas.specs.Outlines.{bad_corner, edges_round, outline_edges}
+use Rattle.map_areas.specs.Order.{MayBecome}
 use Rattle.map_areas.proofs.area.area_commands.Goals as goal
 
 pub returns-clause-ok : goal.returns-clause-ok
@@ -17,7 +15,7 @@ returns-clause-ok c =
     c.in_ok-edges.ensures.edges ∙ ap (λ (vs : List Vertex). edges_round true vs) c.deref.ensures.value in
     record {
       polygon = subst (λ (vs : List Vertex). bad_corner (outline_edges vs) ≡ None) c.deref.ensures.value c.in_ok-edges.ensures.polygon;
-      whole = subst (λ (gs : List PlacedLine). CrossWhole (placed_lines m) gs) es c.in_ok-commands.ensures.whole;
+      becomes = subst (λ (gs : List PlacedLine). MayBecome m gs) es c.in_ok-commands.ensures.becomes;
       taken = c.in_ok-commands.ensures.taken;
       area = subst (λ (gs : List PlacedLine). DrawsArea gs m (drawn m c.in_ok-commands.commands.items)) es c.in_ok-commands.ensures.area;
     }

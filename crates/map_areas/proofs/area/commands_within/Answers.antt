@@ -1,8 +1,18 @@
-use Rattle.std.proofs.Common.{◌≡◌, List, ◌∙◌, ap, subst, sym}
+use Rattle.std.proofs.Common.{◌≡◌, ℕ, All, List, Option, ◌∙◌, ap, subst, sym}
 use Rattle.map_commands.specs.declared.command.Command.{Command}
 use Rattle.map_plane.specs.declared.places.PlacedLine.{PlacedLine}
+use Rattle.map_plane.specs.Places.{placed_lines}
+use Rattle.map_tables.specs.Tables.{Tables}
 use Rattle.map_areas.specs.Apart.{doubled}
-use Rattle.map_areas.specs.Drawn.{LeadTo}
+use Rattle.map_areas.specs.Cuts.{IsLed, uncut}
+use Rattle.map_areas.specs.Drawn.{LeadTo, RefusesDrawing}
+use Rattle.map_areas.specs.Errors.{IsOfMap}
+use Rattle.map_areas.specs.Order.{ComesAfterSectors, ComesInOrder, MayBecome}
+use Rattle.map_areas.specs.Refusals.{CrossWhole}
+use Rattle.map_areas.specs.declared.border.CutEdge.{CutEdge}
+use Rattle.map_areas.proofs.Bordering.{covered_all}
+use Rattle.map_areas.proofs.InOrder.{crossing_in_order, crossing_of_map, drawing_in_order, passed_on, range_in_order, round_in_order, round_of_map}
+use Rattle.map_areas.proofs.Led.{not_several}
 use Rattle.map_areas.proofs.Others.{others_changing}
 use Rattle.map_areas.proofs.Whole.{bordered_drawn, stays_drawn}
 use Rattle.map_areas.proofs.area.commands_within.Goals as goal
@@ -26,10 +36,68 @@ returns-clause-area c =
           stays_drawn m new cs es border.edges.items border.doubled.items round c.count-sectors.result led edges twice number c.in_ok-new.ensures.stays
           c.in_ok-look_at.ensures.sides c.in_ok-look_at.ensures.lines c.in_ok-look_at.ensures.alone;
       border =
-          bordered_drawn m new cs es border.edges.items round c.count-sectors.result led edges number c.in_ok-look_at.ensures.border;
+          bordered_drawn m new cs es border.edges.items round c.count-sectors.result led edges number
+          (covered_all m new round c.count-sectors.result border.cut_edges.items border.edges.items (c.in_ok-border.ensures.cut_edges ∙ sym edges)
+          c.in_ok-round.ensures.led c.in_ok-look_at.ensures.walled);
     }
+
+-- what is known once the border is followed
+becomes : (m : Tables) (round : Option ℕ) (cs : List CutEdge) (es : List PlacedLine) → CrossWhole (placed_lines m) es → uncut cs ≡ es → All (IsLed m round) cs → MayBecome m es
+becomes m round cs es whole edges led = record { whole = whole; sectors = not_several m round cs es edges led }
+
+pub returns-clause-becomes : goal.returns-clause-becomes
+returns-clause-becomes c =
+    becomes c.args.map.now.tables c.in_ok-round.round c.in_ok-border.border.cut_edges.items c.args.edges.items c.in_ok-border.ensures.whole
+    c.in_ok-border.ensures.cut_edges c.in_ok-round.ensures.led
+
+pub returns-in_err-border-clause-refused : goal.returns-in_err-border-clause-refused
+returns-in_err-border-clause-refused c =
+    let e = c.in_err-border.field-0.0 in
+    passed_on IsOfMap c.from_residual-in_err-border.result e c.from_residual-in_err-border.ensures.1
+    (crossing_of_map e c.in_err-border.ensures.refused)
+
+pub returns-in_err-border-clause-order : goal.returns-in_err-border-clause-order
+returns-in_err-border-clause-order c =
+    let m = c.args.map.now.tables in
+    let es = c.args.edges.items in
+    let e = c.in_err-border.field-0.0 in
+    passed_on (ComesInOrder m es) c.from_residual-in_err-border.result e c.from_residual-in_err-border.ensures.1
+    (crossing_in_order m es e c.in_err-border.ensures.refused)
+
+pub returns-in_err-round-clause-refused : goal.returns-in_err-round-clause-refused
+returns-in_err-round-clause-refused c =
+    let e = c.in_err-round.field-0.0 in
+    passed_on IsOfMap c.from_residual-in_err-round.result e c.from_residual-in_err-round.ensures.1
+    (round_of_map e c.in_err-round.ensures.refused)
+
+pub returns-in_err-round-clause-order : goal.returns-in_err-round-clause-order
+returns-in_err-round-clause-order c =
+    let m = c.args.map.now.tables in
+    let es = c.args.edges.items in
+    let e = c.in_err-round.field-0.0 in
+    passed_on (ComesInOrder m es) c.from_residual-in_err-round.result e c.from_residual-in_err-round.ensures.1
+    (round_in_order m es e c.in_err-round.ensures.refused c.in_ok-border.ensures.whole
+    (subst (λ (ls : List PlacedLine). ComesAfterSectors m ls e) c.in_ok-border.ensures.edges c.in_err-round.ensures.order))
+
+pub returns-in_err-new-clause-order : goal.returns-in_err-new-clause-order
+returns-in_err-new-clause-order c =
+    let m = c.args.map.now.tables in
+    let es = c.args.edges.items in
+    let e = c.in_err-new.field-0.0 in
+    passed_on (ComesInOrder m es) c.from_residual-in_err-new.result e c.from_residual-in_err-new.ensures.1
+    (drawing_in_order m es e
+    (subst (λ (ls : List PlacedLine). RefusesDrawing m ls e) (c.deref-2.ensures.value ∙ c.in_ok-border.ensures.edges) c.in_err-new.ensures.refused)
+    (becomes m c.in_ok-round.round c.in_ok-border.border.cut_edges.items es c.in_ok-border.ensures.whole c.in_ok-border.ensures.cut_edges c.in_ok-round.ensures.led))
+
+pub returns-in_err-look_at-clause-order : goal.returns-in_err-look_at-clause-order
+returns-in_err-look_at-clause-order c =
+    let m = c.args.map.now.tables in
+    let es = c.args.edges.items in
+    let e = c.in_err-look_at.field-0.0 in
+    passed_on (ComesInOrder m es) c.from_residual-in_err-look_at.result e c.from_residual-in_err-look_at.ensures.1
+    (range_in_order m es e c.in_err-look_at.ensures.refused)
 
 pub look_at-requires-clause-others : goal.look_at-requires-clause-others
 look_at-requires-clause-others c =
-    others_changing c.as_slice-all.result.now c.deref-4.result.now c.args.map.now.tables c.in_ok-new.new.tables
-    (c.deref-4.ensures.value ∙ c.in_ok-changing.ensures) c.in_ok-new.ensures.others
+    others_changing c.as_slice-all.result.now c.deref-3.result.now c.args.map.now.tables c.in_ok-new.new.tables
+    (c.deref-3.ensures.value ∙ c.in_ok-changing.ensures) c.in_ok-new.ensures.others

@@ -1,13 +1,13 @@
-use Rattle.map_areas.proofs.Bordering.{covered_all, covered_more}
+use Rattle.map_areas.specs.Cuts.{IsWalled}
+use Rattle.map_areas.proofs.Bordering.{each_all, each_more}
 use Rattle.map_areas.proofs.bordered.find_bordered.Goals as goal
 
-pub loop-edge-preserved : goal.loop-edge-preserved
-loop-edge-preserved c =
-    covered_more c.args.old.now.tables c.args.new.now.tables c.args.paint.now.round c.args.paint.now.sector c.deref-edge-items.result.now c.args.border.now.edges.items c.loop-edge.edge-index _
-    c.stops_before-stops.result.now c.is_covered.result c.deref-edge-items.ensures.value c.loop-edge-test.true c.loop-edge.invariant c.is_covered.ensures
-    c.if-not-is_covered.false
+pub loop-cut-preserved : goal.loop-cut-preserved
+loop-cut-preserved c =
+    each_more (IsWalled c.args.old.now.tables c.args.new.now.tables c.args.sector) c.deref-cut-items.result.now c.args.border.now.cut_edges.items c.loop-cut.cut-index c.cut-item.result
+    c.deref-cut-items.ensures.value c.loop-cut-test.true c.loop-cut.invariant c.cut-item.is (c.are_walled.ensures c.if-not-are_walled.false)
 
-pub returns-clause-covered : goal.returns-clause-covered
-returns-clause-covered c =
-    covered_all c.args.old.now.tables c.args.new.now.tables c.args.paint.now.round c.args.paint.now.sector c.deref-edge-items.result.now c.args.border.now.edges.items c.loop-edge.edge-index
-    c.deref-edge-items.ensures.value c.loop-edge-test.false c.loop-edge.invariant
+pub returns-clause-walled : goal.returns-clause-walled
+returns-clause-walled c =
+    each_all (IsWalled c.args.old.now.tables c.args.new.now.tables c.args.sector) c.deref-cut-items.result.now c.args.border.now.cut_edges.items c.loop-cut.cut-index c.deref-cut-items.ensures.value
+    c.loop-cut-test.false c.loop-cut.invariant

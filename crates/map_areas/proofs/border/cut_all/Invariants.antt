@@ -1,0 +1,14 @@
+use Rattle.std.proofs.Common.{◌≡◌, ℕ, ◌<◌, Some, take}
+use Rattle.std.specs.List.{slice_get}
+use Rattle.map_areas.specs.Cuts.{uncut}
+use Rattle.map_areas.specs.Refusals.{CrossesBetween}
+use Rattle.map_plane.specs.Places.{placed_lines}
+use Rattle.map_plane.specs.declared.places.PlacedLine.{PlacedLine}
+use Rattle.map_areas.proofs.border.cut_all.Given as goal
+
+-- the edges so far, none of which crosses a line between whole places
+abbrev pub invariant-loop-edge : goal.invariant-loop-edge
+invariant-loop-edge l = record {
+  edges : uncut l.all.items ≡ take l.edge-index l.edges;
+  whole : (k : ℕ) → k < l.edge-index → (e : PlacedLine) → slice_get l.edges k ≡ Some e → (n : ℕ) → CrossesBetween (placed_lines l.map.tables) e n → ⊥;
+}
