@@ -1,12 +1,5 @@
-pub mod Counting
-pub mod DumpedLemmas
-pub mod Examined
-pub mod JoinedLines
-pub mod Rebuilding
-pub mod Salvaging
-pub mod ScriptOrigins
-pub mod Scripted
-pub mod Scripts
-pub mod SourceDone
-pub mod Sources
-pub mod TypedLines
+mod DumpedLemmas
+mod Rebuilding
+mod Scripted
+mod SourceDone
+mod Sources

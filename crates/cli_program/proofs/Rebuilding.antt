@@ -12,8 +12,8 @@ use Rattle.lump_records.specs.Names.{name_text}
 use Rattle.lump_records.specs.declared.records.Name8.{Name8}
 use Rattle.cli_files.specs.NewFile.{IsMadeOf}
 use Rattle.cli_print.specs.ShownNames.{shown}
-use Rattle.cli_program.proofs.Sources.{unread_of}
-use Rattle.cli_program.specs.Dumped.{OverWadTold}
+use Rattle.cli_sources.proofs.Opened.{unread_of}
+use Rattle.cli_sources.specs.Unread.{OverWadTold}
 use Rattle.cli_program.specs.Rebuilding.{IsRebuiltAt, IsRebuiltOf, IsToldOf, fate_text, kept_line, kept_fault_lines, kept_notes, kept_of, left_as_text, made_text, status_rebuilt}
 use Rattle.run_edit.specs.declared.error.EditorError.TheVariants.{WriterFailed}
 use Rattle.wad_rebuild.specs.Rebuilt.{IsFate, IsRebuilt, IsRebuiltWad, kept_in}

@@ -14,17 +14,17 @@ use Rattle.cli_print.specs.Picturing.{IsPicturedOf}
 use Rattle.cli_print.specs.declared.laid_over.Layers.{Layers}
 use Rattle.cli_program.specs.SourceDeeds.{IsBuiltAt, IsCheckedAt, IsDoneWith, IsDumpedAt, IsLintedAt, IsPicturedAt}
 use Rattle.cli_program.specs.SomeSource.{OverSome, OverSource}
-use Rattle.cli_program.specs.Sources.{IsBuiltFrom}
-use Rattle.cli_program.specs.DrawnInto.{is_file}
-use Rattle.cli_program.proofs.JoinedLines.{ends_apart}
+use Rattle.cli_requests.specs.Requests.{IsBuiltFrom}
+use Rattle.cli_scripts.specs.DrawnInto.{is_file}
+use Rattle.cli_scripts.proofs.JoinedLines.{ends_apart}
 use Rattle.map_script.specs.Scripts.{script_lines}
 use Rattle.run_canvas.specs.Canvases.{OneOf}
 use Rattle.run_canvas.specs.declared.canvas.Canvas as canvas
-use Rattle.cli_program.specs.ScriptCanvases.{ItemOrigin, ScriptCanvas, maps_alone, maps_with_origins}
+use Rattle.cli_scripts.specs.ScriptCanvases.{ItemOrigin, ScriptCanvas, maps_alone, maps_with_origins}
 use Rattle.cli_program.specs.Deeds.{IsPerformed}
 use Rattle.cli_program.specs.Kinds.{IsQuiet}
 use Rattle.cli_program.specs.Notes.{TellsNotes}
-use Rattle.cli_program.specs.ScriptMaps.{IsStopped, OverScript}
+use Rattle.cli_scripts.specs.ScriptMaps.{IsStopped, OverScript}
 use Rattle.cli_refusals.specs.Statuses.{status_in}
 use Rattle.cli_refusals.specs.declared.refusal.Refusal.{Refusal}
 use Rattle.cli_words.specs.declared.asked.Request.{Request}

@@ -1,35 +1,31 @@
 -- What was done for a request (docs/COMMANDS.md, "The program"). How it ended is a status, or the
 -- refusal. A file tells no bytes, so which project, WAD or script it was is left open.
-use Rattle.std.specs.Prelude.{◌≡◌, ◌⊎◌, ℕ, Bool, Option, None, Some, Result, Ok, Err, List, [], ◌∷◌, ◌++◌, codes, string_bytes, false, map, option_map}
-use Rattle.std.specs.Io.KnownBytes.{Appends, Keeps}
+use Rattle.std.specs.Prelude.{◌≡◌, ◌⊎◌, ℕ, Option, None, Some, Result, Err, List, string_bytes, false, map, option_map}
+use Rattle.std.specs.Io.KnownBytes.{Keeps}
 use Rattle.store_disk.specs.declared.disk.Disk.{Ghosts}
 use Rattle.map_tables.specs.Projects.{ProjectMaps, empty_project}
-use Rattle.store_project.specs.Places.{IsAllowed}
 use Rattle.store_project.specs.States.{State}
 use Rattle.store_project.specs.declared.error.ProjectError.{ProjectError}
 use Rattle.run_edit.specs.Answers.{RepliesInMemory}
-use Rattle.cli_program.specs.DrawnInto.{IsDrawnInto, IsScriptTried, IsTriedOntoSome, script_path}
+use Rattle.cli_scripts.specs.DrawnInto.{IsDrawnInto, IsScriptTried, IsTriedOntoSome, script_path}
 use Rattle.run_edit.specs.Editing.{told_of}
-use Rattle.run_edit.specs.Inspections.{IsInspected}
-use Rattle.cli_program.specs.LevelNames.{IsListed}
+use Rattle.cli_requests.specs.LevelNames.{IsListed}
 use Rattle.cli_program.specs.SourceDeeds.{IsDoneWithSome}
 use Rattle.cli_print.specs.Reading.{turns}
 use Rattle.cli_program.specs.Rebuilding.{IsRebuiltInto}
-use Rattle.cli_program.specs.Salvaging.{IsSalvagedInto}
-use Rattle.cli_refusals.specs.Refusals.{IsOfOpening, NotCreated, NotExamined}
+use Rattle.cli_requests.specs.Salvaging.{IsSalvagedInto}
+use Rattle.cli_refusals.specs.Refusals.{IsOfOpening}
 use Rattle.run_edit.specs.Runs.{Exchange, IsTrace, Ran}
 use Rattle.run_edit.specs.Sessions.{RunsOver}
 use Rattle.run_edit.specs.Told.{RepliesTold}
-use Rattle.cli_refusals.specs.Statuses.{run_end, status_told}
+use Rattle.cli_refusals.specs.Statuses.{run_end}
 use Rattle.cli_words.specs.declared.asked.Request.{Request}
 use Rattle.cli_words.specs.declared.asked.Request.TheVariants.{Scratch, Create, Edit, Check, Lint, Draw, TryScript, Dump, Salvage, Picture, Inspect, Levels, Build, Rebuild}
 use Rattle.run_edit.specs.declared.error.EditorError.{EditorError}
 use Rattle.cli_refusals.specs.declared.refusal.Refusal.{Refusal}
 use Rattle.cli_refusals.specs.declared.refusal.Refusal.TheVariants as of
-
--- the length of the longest body of one map, in bytes: what the maps in memory have room for
-abbrev pub longest_body : ℕ
-longest_body = 2007002
+use Rattle.cli_requests.specs.Requests.{IsCreated, IsExamined}
+use Rattle.cli_requests.specs.Typing.{longest_body}
 
 -- the lines of the input were answered over the empty project, and the answers written
 abbrev pub IsScratched : Result ℕ Refusal → Option (List ℕ) → Option (List ℕ) → Option (List ℕ)
@@ -39,14 +35,6 @@ IsScratched how reader-old reader-new writer-old writer-new =
     × (how ≡ run_end result)
     × Ran (IsTrace (RepliesInMemory longest_body)) empty_project last trace turns result
     reader-old reader-new writer-old writer-new
-
--- `created` was written, and the lengths that were asked for are allowed; or it was refused
-abbrev pub IsCreated : ℕ → ℕ → Result ℕ Refusal → Option (List ℕ) → Option (List ℕ) → Type 0
-IsCreated slot journal (Ok status) writer-old writer-new =
-    (status ≡ 0) × IsAllowed slot journal
-    × Appends writer-old writer-new (codes "created" ++ 10 ∷ [])
-IsCreated slot journal (Err refusal) writer-old writer-new =
-    NotCreated slot journal refusal writer-old writer-new
 
 -- no project was opened and nothing read or written, or the lines of the input were answered over
 -- one, and the answers written
@@ -61,14 +49,6 @@ IsEdited {D = D} facts how reader-old reader-new writer-old writer-new =
     × Ran (IsTrace RepliesTold) (told_of first) (told_of last) trace turns result
     reader-old reader-new writer-old writer-new
     × RunsOver facts first last trace)
-
--- the level of the name in what was read of a WAD was inspected, and the status tells whether it is
--- sound; or it was refused
-abbrev pub IsExamined : List ℕ → Result ℕ Refusal → Option (List ℕ) → Option (List ℕ) → Type 0
-IsExamined name (Ok status) writer-old writer-new =
-    (wad : List ℕ) × (sound : Bool) × (status ≡ status_told sound)
-    × IsInspected wad name sound writer-old writer-new
-IsExamined name (Err refusal) writer-old writer-new = NotExamined name refusal writer-old writer-new
 
 -- what was done for a request that ended so; a run reads the input, and so does a script that is `-`
 abbrev pub IsPerformed : {D : Type 0} → Ghosts D → Request → Result ℕ Refusal → Option (List ℕ)

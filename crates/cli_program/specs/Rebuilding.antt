@@ -6,7 +6,7 @@ use Rattle.run_edit.specs.declared.error.InspectError.TheVariants as inspecting
 use Rattle.wad_levels.specs.declared.error.ReadError.TheVariants as reading
 use Rattle.lump_records.specs.Names.{name_text}
 use Rattle.lump_records.specs.declared.records.Name8.{Name8}
-use Rattle.cli_program.specs.DrawnInto.{EndsUnread}
+use Rattle.cli_sources.specs.Unread.{EndsUnread}
 use Rattle.cli_print.specs.ShownNames.{shown}
 use Rattle.wad_rebuild.specs.Rebuilt.{IsRebuiltWad, RefusesRebuild, kept_in}
 use Rattle.wad_rebuild.specs.Texts.{cause_text, kept_text}

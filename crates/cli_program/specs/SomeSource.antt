@@ -5,10 +5,12 @@ use Rattle.std.specs.Io.KnownBytes.{Keeps}
 use Rattle.map_tables.specs.Projects.{MapsView}
 use Rattle.cli_refusals.specs.declared.refusal.Refusal.{Refusal}
 use Rattle.run_canvas.specs.Canvases.{OneOf}
-use Rattle.cli_program.specs.DrawnInto.{EndsUnopened, EndsUnread, is_file}
+use Rattle.cli_sources.specs.Opened.{EndsUnopened}
+use Rattle.cli_sources.specs.Unread.{EndsUnread}
+use Rattle.cli_scripts.specs.DrawnInto.{is_file}
 use Rattle.cli_print.specs.Origins.{no_origin}
-use Rattle.cli_program.specs.ScriptCanvases.{ItemOrigin, ScriptCanvas}
-use Rattle.cli_program.specs.ScriptMaps.{OverScript, OverSomeScript}
+use Rattle.cli_scripts.specs.ScriptCanvases.{ItemOrigin, ScriptCanvas}
+use Rattle.cli_scripts.specs.ScriptMaps.{OverScript, OverSomeScript}
 
 -- no project was opened and nothing written, or this was done with the maps of some project
 abbrev pub OverSomeMaps : Result ℕ Refusal → Option (List ℕ) → Option (List ℕ)

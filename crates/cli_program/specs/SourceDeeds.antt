@@ -1,6 +1,6 @@
 -- What was done for a request over a project, a WAD or a script (docs/COMMANDS.md, "The program"), and
 -- what was told on standard error: nothing, but for a refused line of a script, or notes on levels.
-use Rattle.std.specs.Prelude.{◌≡◌, ℕ, Bool, Option, Result, List, is_some, map, option_map, string_bytes}
+use Rattle.std.specs.Prelude.{ℕ, Bool, Option, Result, List, is_some, map, option_map, string_bytes}
 use Rattle.std.specs.Io.KnownBytes.{Keeps}
 use Rattle.cli_dump.specs.Dumping.{IsDumpedIn}
 use Rattle.cli_dump.specs.LevelDumps.{IsWadDumped}
@@ -12,9 +12,9 @@ use Rattle.cli_print.specs.LevelPicture.{IsLevelPicturedOf}
 use Rattle.cli_print.specs.Linting.{IsLintedBy}
 use Rattle.cli_print.specs.Picturing.{IsPicturedOf}
 use Rattle.cli_print.specs.declared.laid_over.Layers.{Layers}
-use Rattle.cli_program.specs.ScriptCanvases.{maps_alone, maps_with_origins}
+use Rattle.cli_scripts.specs.ScriptCanvases.{maps_alone, maps_with_origins}
 use Rattle.cli_program.specs.SomeSource.{OverSource}
-use Rattle.cli_program.specs.Sources.{IsBuiltFrom}
+use Rattle.cli_requests.specs.Requests.{IsBuiltFrom}
 use Rattle.cli_refusals.specs.declared.refusal.Refusal.{Refusal}
 use Rattle.cli_words.specs.declared.asked.Request.{Request}
 use Rattle.cli_words.specs.declared.asked.Request.TheVariants.{Check, Lint, Dump, Picture, Build}

@@ -1,11 +1,10 @@
 //! The names that a file has, told where none of them was asked for.
-use crate::over_disk::maps_on;
 use crate::over_file::open_read;
-use crate::script_file::is_file;
-use crate::script_maps::draw_maps;
 use cli_files::{Content, Hold, NotedFile, ReadFile, content_in};
 use cli_print::{TURNS, read_wad};
 use cli_refusals::Causes;
+use cli_scripts::{draw_maps, is_file};
+use cli_sources::maps_on;
 use cli_words::Request;
 use lump_records::Name8;
 use lump_text::write_shown;

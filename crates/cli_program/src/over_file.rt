@@ -1,20 +1,19 @@
 //! The requests that make a project or change one, and `dump --salvage`, over the file at a path.
 ghost use Rattle.std.specs.Prelude.{◌≡◌, ◌≤◌, ◌⊎◌, false, Ok, IfErr, IfOk};
 ghost use Rattle.std.specs.Io.KnownBytes.{Keeps};
-ghost use Rattle.cli_program.specs.DrawnInto.{IsDrawnInto, IsTriedOntoSome};
-ghost use Rattle.cli_program.specs.Salvaging.{IsSalvagedInto};
-ghost use Rattle.cli_program.specs.Deeds.{IsCreated, IsEdited};
+ghost use Rattle.cli_scripts.specs.DrawnInto.{IsDrawnInto, IsTriedOntoSome};
+ghost use Rattle.cli_requests.specs.Salvaging.{IsSalvagedInto};
+ghost use Rattle.cli_requests.specs.Requests.{IsCreated};
+ghost use Rattle.cli_program.specs.Deeds.{IsEdited};
 ghost use Rattle.cli_refusals.specs.declared.refusal.Refusal.{Refusal};
 
-use crate::draw_request::{Script, draw, try_over};
-use crate::over_disk::{create, edit};
-use crate::salvage_request::salvage_lines;
-use crate::script_file::read_at;
 use cli_files::{
     Access, Cause, Content, GaplessFile, Hold, NotedFile, ReadFile, content_in, open_held,
     open_to_read,
 };
 use cli_refusals::{Causes, Refusal};
+use cli_requests::{create, edit, salvage_lines};
+use cli_scripts::{Script, draw, read_at, try_over};
 use std::io::{Read, Write};
 use std::os::unix::fs::FileExt;
 use std::rt::Files;

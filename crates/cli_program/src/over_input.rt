@@ -6,10 +6,10 @@ ghost use Rattle.cli_program.specs.SourceDeeds.{IsBuiltAt, IsCheckedAt, IsDumped
 
 use crate::over_script::{build_script, check_script, dump_script, lint_script, picture_script};
 use crate::over_source::{build_file, check_file, dump_file, lint_file, picture_file};
-use crate::script_file::is_file;
 use cli_files::Hold;
 use cli_print::{Choice, Wanted};
 use cli_refusals::{Causes, Refusal};
+use cli_scripts::is_file;
 use std::io::{Read, Write};
 use std::os::unix::fs::FileExt;
 use std::rt::Files;

@@ -1,22 +1,21 @@
 //! The requests over a script in place of a project: each does with the maps that the script draws in memory what it
 //! does with a project's, or notes why a file can't be read or made.
-ghost use Rattle.std.specs.Prelude.{◌≡◌, ◌≤◌, IfOk, is_some, map, option_map, string_bytes};
+ghost use Rattle.std.specs.Prelude.{◌≤◌, IfOk, is_some, map, option_map, string_bytes};
 ghost use Rattle.cli_dump.specs.Dumping.{IsDumpedIn};
 ghost use Rattle.cli_print.specs.Checking.{IsCheckedIn};
 ghost use Rattle.cli_print.specs.Choosing.{choice_view};
 ghost use Rattle.cli_print.specs.Linting.{IsLintedBy};
 ghost use Rattle.cli_print.specs.Picturing.{IsPicturedOf};
-ghost use Rattle.cli_program.specs.ScriptCanvases.{maps_alone, maps_with_origins};
-ghost use Rattle.cli_program.specs.ScriptMaps.{OverScript};
-ghost use Rattle.cli_program.specs.Sources.{IsBuiltFrom};
+ghost use Rattle.cli_scripts.specs.ScriptCanvases.{maps_alone, maps_with_origins};
+ghost use Rattle.cli_scripts.specs.ScriptMaps.{OverScript};
+ghost use Rattle.cli_requests.specs.Requests.{IsBuiltFrom};
 
-use crate::build_request::build_at;
-use crate::script_maps::draw_maps;
-use crate::script_origin::ScriptOrigin;
 use cli_dump::tell_lines_of;
 use cli_files::{Cause, Hold};
 use cli_print::{Choice, Wanted, draw, tell_beside, tell_findings};
 use cli_refusals::{Causes, Refusal};
+use cli_requests::build_at;
+use cli_scripts::{ScriptOrigin, draw_maps};
 use run_canvas::{Canvas, Draft, OriginDraft};
 use std::fs::Files;
 use std::io::{Read, Write};

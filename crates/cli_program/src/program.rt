@@ -8,16 +8,15 @@ ghost use Rattle.cli_program.specs.SourceDeeds.{IsDoneWith};
 ghost use Rattle.cli_refusals.specs.Statuses.{status_in};
 ghost use Rattle.cli_refusals.specs.declared.refusal.Refusal.{Refusal};
 
-use crate::examining::examine;
-use crate::listing::list_levels;
 use crate::names_beside::tell_names;
 use crate::over_file::{create_file, draw_file, edit_file, salvage_file, try_onto};
 use crate::over_input::{build_source, check_source, dump_source, lint_source, picture_source};
 use crate::rebuild_request::rebuild;
-use crate::script_file::{script_path, try_file};
 use cli_files::{Hold, NotedFile};
 use cli_print::{Choice, TURNS, Wanted, layers_of};
 use cli_refusals::{Causes, Refusal, ended, report, report_causes, status_in};
+use cli_requests::{examine, list_levels};
+use cli_scripts::{script_path, try_file};
 use cli_words::Request;
 use run_edit::{InspectError, run_in_memory};
 use std::alloc::Global;

@@ -4,7 +4,7 @@ ghost use Rattle.std.specs.Io.KnownBytes.{Appends, Keeps};
 ghost use Rattle.cli_files.specs.NewFile.{IsMadeOf, file_of};
 ghost use Rattle.wad_rebuild.specs.Rebuilt.{IsRebuiltWad};
 ghost use Rattle.run_edit.specs.declared.error.EditorError.TheVariants.{WriterFailed};
-ghost use Rattle.cli_program.specs.Dumped.{OverWadTold};
+ghost use Rattle.cli_sources.specs.Unread.{OverWadTold};
 ghost use Rattle.cli_program.specs.Rebuilding.{IsRebuiltAt, IsRebuiltOf, IsToldOf, MakesNone, fate_text, fate_texts, items_text, kept_notes, left_as_text, made_text, rebuilt_text, refusal_for, status_rebuilt, was_left, was_made};
 ghost use Rattle.cli_refusals.specs.declared.refusal.Refusal.{Refusal};
 

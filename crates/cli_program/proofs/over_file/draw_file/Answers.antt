@@ -1,7 +1,7 @@
-use Rattle.std.proofs.Common.{◌∙◌, ap, inl, inr, sym}
+use Rattle.std.proofs.Common.{◌∙◌, ap, inl, sym}
 use Rattle.std.specs.Prelude.{Err}
 use Rattle.std.proofs.KnownBytes.{Keeps-refl, Keeps-trans}
-use Rattle.cli_program.proofs.Scripted.{over_lines, unread_lines}
+use Rattle.cli_scripts.proofs.Scripted.{over_lines, unread_lines}
 use Rattle.cli_program.proofs.Sources.{drawn_onto_some}
 use Rattle.cli_program.proofs.over_file.draw_file.Goals as goal
 

@@ -1,4 +1,4 @@
-use Rattle.cli_program.proofs.Salvaging.{salvaged_into}
+use Rattle.cli_requests.proofs.Salvaging.{salvaged_into}
 use Rattle.cli_program.proofs.over_file.salvage_file.Goals as goal
 
 pub returns-clause-salvaged : goal.returns-clause-salvaged

@@ -1,7 +1,8 @@
 use Rattle.std.proofs.Common.{◌∙◌, inl, sym}
 use Rattle.std.proofs.KnownBytes.{Keeps-trans}
-use Rattle.cli_program.proofs.Scripted.{over_lines, tried_onto_some, unread_lines}
-use Rattle.cli_program.proofs.Sources.{unopened_of}
+use Rattle.cli_scripts.proofs.Scripted.{over_lines, unread_lines}
+use Rattle.cli_program.proofs.Sources.{tried_onto_some}
+use Rattle.cli_sources.proofs.Opened.{unopened_of}
 use Rattle.cli_program.proofs.over_file.try_onto.Goals as goal
 
 pub returns-in-Err-clause-tried : goal.returns-in-Err-clause-tried

@@ -1,6 +1,6 @@
 use Rattle.std.proofs.Common.{◌∙◌, sym}
 use Rattle.cli_program.proofs.Scripted.{source_of_file, source_of_input}
-use Rattle.cli_program.specs.ScriptCanvases.{maps_with_origins}
+use Rattle.cli_scripts.specs.ScriptCanvases.{maps_with_origins}
 use Rattle.cli_program.proofs.over_input.lint_source.Goals as goal
 
 pub returns-then-is_file-clause-linted : goal.returns-then-is_file-clause-linted

@@ -1,6 +1,6 @@
 use Rattle.std.proofs.Common.{refl}
 use Rattle.cli_program.proofs.Scripted.{over_drawn, over_none}
-use Rattle.cli_program.specs.ScriptCanvases.{maps_alone}
+use Rattle.cli_scripts.specs.ScriptCanvases.{maps_alone}
 use Rattle.cli_program.proofs.over_script.build_script.Goals as goal
 
 pub returns-in-Err-clause-built : goal.returns-in-Err-clause-built

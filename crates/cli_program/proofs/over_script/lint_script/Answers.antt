@@ -1,7 +1,7 @@
 use Rattle.std.proofs.Common.{ap}
 use Rattle.cli_program.proofs.Scripted.{over_drawn, over_none}
-use Rattle.cli_program.specs.ScriptCanvases.{maps_with_origins}
-use Rattle.cli_program.specs.ScriptOrigins.{DrawnScript, script_origin}
+use Rattle.cli_scripts.specs.ScriptCanvases.{maps_with_origins}
+use Rattle.cli_scripts.specs.ScriptOrigins.{DrawnScript, script_origin}
 use Rattle.cli_program.proofs.over_script.lint_script.Goals as goal
 
 pub returns-in-Err-clause-linted : goal.returns-in-Err-clause-linted

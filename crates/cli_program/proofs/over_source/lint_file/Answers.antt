@@ -1,7 +1,7 @@
 use Rattle.std.proofs.KnownBytes.{Keeps-refl}
 use Rattle.cli_program.proofs.Scripted.{some_of_maps, some_of_script, some_of_wad}
 use Rattle.cli_program.proofs.Sources.{of_some_maps}
-use Rattle.cli_program.specs.ScriptCanvases.{maps_with_origins}
+use Rattle.cli_scripts.specs.ScriptCanvases.{maps_with_origins}
 use Rattle.cli_program.proofs.over_source.lint_file.Goals as goal
 
 pub returns-in-Ok-Wad-clause-linted : goal.returns-in-Ok-Wad-clause-linted

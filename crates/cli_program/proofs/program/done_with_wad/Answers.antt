@@ -1,6 +1,6 @@
 use Rattle.std.proofs.Common.{List, ℕ, subst}
 use Rattle.std.proofs.KnownBytes.{Keeps-refl}
-use Rattle.cli_program.specs.Deeds.{IsExamined}
+use Rattle.cli_requests.specs.Requests.{IsExamined}
 use Rattle.cli_program.proofs.program.done_with_wad.Goals as goal
 
 pub returns-in-Inspect-clause-performed : goal.returns-in-Inspect-clause-performed

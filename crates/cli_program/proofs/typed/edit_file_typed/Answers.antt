@@ -1,4 +1,4 @@
-use Rattle.cli_program.proofs.TypedLines.{typed_into}
+use Rattle.cli_program.proofs.Sources.{typed_into}
 use Rattle.cli_program.proofs.typed.edit_file_typed.Goals as goal
 
 pub returns-clause-typed : goal.returns-clause-typed

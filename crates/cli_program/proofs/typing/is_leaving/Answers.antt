@@ -1,7 +1,0 @@
-use Rattle.std.proofs.Common.{◌∙◌, ap}
-use Rattle.cli_program.specs.Typed.{quits}
-use Rattle.cli_program.proofs.TypedLines.{quits-front}
-use Rattle.cli_program.proofs.typing.is_leaving.Goals as goal
-
-pub returns : goal.returns
-returns c = λ part begun. c.quits.ensures ∙ ap quits (c.as_slice.ensures.bytes ∙ begun.front) ∙ quits-front part

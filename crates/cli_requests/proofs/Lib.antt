@@ -1,0 +1,5 @@
+mod Counting
+mod Examined
+mod Made
+pub mod Salvaging
+mod TypedLines

@@ -1,0 +1,4 @@
+pub mod LevelNames
+pub mod Requests
+pub mod Salvaging
+pub mod Typing

@@ -1,0 +1,4 @@
+pub mod JoinedLines
+mod ScriptOrigins
+pub mod Scripted
+mod Scripts
