@@ -1,4 +1,4 @@
--- When no reason refuses an area, and which of several reasons is told.
+-- When no reason refuses an area for its border, and which of several reasons is told.
 use Rattle.std.specs.Prelude.{◌≡◌, false, List}
 use Rattle.map_plane.specs.Places.{placed_lines}
 use Rattle.map_plane.specs.declared.places.PlacedLine.{PlacedLine}
@@ -23,8 +23,8 @@ IsOfRound OutOfRange = Unit {0}
 IsOfRound OutOfMemory = Unit {0}
 IsOfRound e = ⊥
 
--- no reason refuses an area: its edges cross lines at whole places, and no two parts of its border have different
--- sectors inside
+-- no reason refuses an area for its border: its edges cross lines at whole places, and no two parts of it have
+-- different sectors inside
 pub record MayBecome (m : Tables) (es : List PlacedLine) : Type 0 where
   pub whole : CrossWhole (placed_lines m) es
   pub sectors : (first second : Part) → are_several m es first second ≡ false

@@ -111,8 +111,8 @@ fn comes_before(a: Vertex, b: Vertex) -> bool
     a.x < b.x || a.x == b.x && a.y < b.y
 }
 
-/// Whether the line, which runs along the way, runs in its direction.
-pub(crate) fn runs_with(way: &PlacedLine, line: &PlacedLine) -> bool
+// Whether the line, which runs along the way, runs in its direction.
+fn runs_with(way: &PlacedLine, line: &PlacedLine) -> bool
     ensures { result ≡ runs_with way.now line.now }
 {
     if comes_before(way.from, way.to) {
@@ -212,8 +212,8 @@ fn is_faced(map: &Map, lines: &[PlacedLine], way: &PlacedLine, sector: Option<u1
     lines.iter().any(|line| faces_left(map, way, sector, line))
 }
 
-/// Whether one of the lines runs along the way.
-pub(crate) fn is_lined(lines: &[PlacedLine], way: &PlacedLine) -> bool
+// Whether one of the lines runs along the way.
+fn is_lined(lines: &[PlacedLine], way: &PlacedLine) -> bool
     ensures { result ≡ list_any (runs_along way.now) lines.now }
 {
     lines.iter().any(|line| runs_along(way, line))
