@@ -94,8 +94,8 @@ is_meant word = list_any (λ d. is_meant_as word d.0.now) DEEDS.now
 
 -- a command of these two first words, if they are meant so, could lift what was refused on a ground
 unfoldable pub command_lifts : Ground → List ℕ → List ℕ → Bool
-command_lifts ground first second =
-    list_any (λ d. is_meant_as first d.0.now && can_lift ground (deed_with d.1 second)) DEEDS.now
+command_lifts cause first second =
+    list_any (λ d. is_meant_as first d.0.now && can_lift cause (deed_with d.1 second)) DEEDS.now
 
 -- one of some lines defines a shape
 abbrev pub one_defines : List (ℕ × List ℕ) → Bool
@@ -113,14 +113,14 @@ is_ground g = true
 
 -- a line of the script, once it is mended, could lift what was refused on a ground
 abbrev pub could_lift : List (ℕ × List ℕ) → Ground → List ℕ → Bool
-could_lift lines ground line =
+could_lift lines cause line =
     let ws = command_words (text_words line) in
-    is_ground ground && (is_any_word lines (first_word ws)
-    || command_lifts ground (first_word ws) (first_word (drop 1 ws)))
+    is_ground cause && (is_any_word lines (first_word ws)
+    || command_lifts cause (first_word ws) (first_word (drop 1 ws)))
 
 -- one of some lines could
 abbrev pub one_could_lift : List (ℕ × List ℕ) → Ground → List (ℕ × List ℕ) → Bool
-one_could_lift lines ground out = list_any (λ l. could_lift lines ground l.1) out
+one_could_lift lines cause out = list_any (λ l. could_lift lines cause l.1) out
 
 -- a line that isn't refused may free a place: so does its command, or it begins with a name
 abbrev pub frees_place : List ℕ → Bool

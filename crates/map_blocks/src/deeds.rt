@@ -142,10 +142,10 @@ fn may_change(deed: Deed) -> bool
 }
 
 // Whether what was refused on a ground might not be behind a command.
-fn can_lift(ground: Ground, deed: Deed) -> bool
-    ensures { result ≡ can_lift ground deed }
+fn can_lift(cause: Ground, deed: Deed) -> bool
+    ensures { result ≡ can_lift cause deed }
 {
-    match ground {
+    match cause {
         Ground::Nothing => false,
         Ground::Sectors => may_add_sector(deed),
         Ground::Things => may_add_thing(deed),
@@ -241,19 +241,19 @@ fn is_meant(word: &[u8]) -> bool
 }
 
 // Whether a command, if it is one of these, could lift what was refused on a ground.
-fn lifts_among(deeds: &[(&[u8], Deed)], ground: Ground, first: &[u8], second: &[u8]) -> bool
+fn lifts_among(deeds: &[(&[u8], Deed)], cause: Ground, first: &[u8], second: &[u8]) -> bool
     ensures { result ≡ list_any (λ d. is_meant_as first.now d.0.now
-        && can_lift ground (deed_with d.1 second.now)) deeds.now }
+        && can_lift cause (deed_with d.1 second.now)) deeds.now }
 {
-    deeds.iter().any(|d| is_meant_as(first, d.0) && can_lift(ground, deed_with(d.1, second)))
+    deeds.iter().any(|d| is_meant_as(first, d.0) && can_lift(cause, deed_with(d.1, second)))
 }
 
 // Whether a command of these two first words could lift what was refused on a ground.
 #[tactic(auto, unfolding(crate::specs::Deeds::command_lifts))]
-fn command_lifts(ground: Ground, first: &[u8], second: &[u8]) -> bool
-    ensures { result ≡ command_lifts ground first.now second.now }
+fn command_lifts(cause: Ground, first: &[u8], second: &[u8]) -> bool
+    ensures { result ≡ command_lifts cause first.now second.now }
 {
-    lifts_among(DEEDS, ground, first, second)
+    lifts_among(DEEDS, cause, first, second)
 }
 
 // Whether a line defines a shape.
@@ -282,30 +282,30 @@ fn is_any_word(lines: &ScriptLines, word: &[u8]) -> bool
     !is_known_word(word) && (one_defines(lines) || !is_meant(word))
 }
 
-fn is_ground(ground: Ground) -> bool
-    ensures { result ≡ is_ground ground }
+fn is_ground(cause: Ground) -> bool
+    ensures { result ≡ is_ground cause }
 {
-    match ground {
+    match cause {
         Ground::Nothing => false,
         _ => true,
     }
 }
 
 // Whether a line of a script, once it is mended, could lift what was refused on a ground.
-fn could_lift(lines: &ScriptLines, ground: Ground, line: &[u8]) -> bool
-    ensures { result ≡ could_lift lines.now ground line.now }
+fn could_lift(lines: &ScriptLines, cause: Ground, line: &[u8]) -> bool
+    ensures { result ≡ could_lift lines.now cause line.now }
 {
     let (first, rest) = first_word(command_of(line));
     let (second, _) = first_word(rest);
-    is_ground(ground) && (is_any_word(lines, first) || command_lifts(ground, first, second))
+    is_ground(cause) && (is_any_word(lines, first) || command_lifts(cause, first, second))
 }
 
 /// Whether one of some lines of a script, once it is mended, could lift what was refused on a ground.
-pub fn one_could_lift(lines: &ScriptLines, ground: Ground, out: &ScriptLines) -> bool
-    ensures { result ≡ one_could_lift lines.now ground out.now }
+pub fn one_could_lift(lines: &ScriptLines, cause: Ground, out: &ScriptLines) -> bool
+    ensures { result ≡ one_could_lift lines.now cause out.now }
 {
     for place in 0..out.len() {
-        if could_lift(lines, ground, out.line(place).text) {
+        if could_lift(lines, cause, out.line(place).text) {
             return true;
         }
     }

@@ -6,11 +6,11 @@ use Rattle.map_blocks.proofs.deeds.one_could_lift.Goals as goal
 
 pub loop-place-preserved : goal.loop-place-preserved
 loop-place-preserved c =
-    any_more (λ (l : ℕ × List ℕ). could_lift c.args.lines.now c.args.ground l.1) c.args.out.now c.loop-place.place (seen c.line.result) c.line.ensures (sym c.could_lift.ensures ∙ c.if-could_lift.false) ∙ c.loop-place.invariant
+    any_more (λ (l : ℕ × List ℕ). could_lift c.args.lines.now c.args.cause l.1) c.args.out.now c.loop-place.place (seen c.line.result) c.line.ensures (sym c.could_lift.ensures ∙ c.if-could_lift.false) ∙ c.loop-place.invariant
 
 pub returns-then-could_lift : goal.returns-then-could_lift
 returns-then-could_lift c =
-    sym (any_here (λ (l : ℕ × List ℕ). could_lift c.args.lines.now c.args.ground l.1) c.args.out.now c.loop-place.place (seen c.line.result) c.line.ensures (sym c.could_lift.ensures ∙ c.if-could_lift.true)) ∙ c.loop-place.invariant
+    sym (any_here (λ (l : ℕ × List ℕ). could_lift c.args.lines.now c.args.cause l.1) c.args.out.now c.loop-place.place (seen c.line.result) c.line.ensures (sym c.could_lift.ensures ∙ c.if-could_lift.true)) ∙ c.loop-place.invariant
 
 pub returns : goal.returns
-returns c = sym (any_none (λ (l : ℕ × List ℕ). could_lift c.args.lines.now c.args.ground l.1) c.args.out.now c.loop-place.place (omega (arith, c.loop-place-test.false))) ∙ c.loop-place.invariant
+returns c = sym (any_none (λ (l : ℕ × List ℕ). could_lift c.args.lines.now c.args.cause l.1) c.args.out.now c.loop-place.place (omega (arith, c.loop-place-test.false))) ∙ c.loop-place.invariant
