@@ -1,5 +1,5 @@
 -- From what is told of each level of a WAD that is built anew to what the request `rebuild` promises.
-use Rattle.std.proofs.Common.{◌≡◌, ◌∙◌, ◌+◌, ◌<◌, ℕ, Bool, List, [], ◌∷◌, ◌++◌, Option, Result, Ok, Err, length, get_or, map, take, ◌⊎◌, inl, inr, refl, sym, ap, subst, append-nil}
+use Rattle.std.proofs.Common.{◌≡◌, ◌∙◌, ◌+◌, ◌<◌, ◌≤◌, ℕ, Bool, List, [], ◌∷◌, ◌++◌, Option, Result, Ok, Err, length, get_or, map, take, ◌⊎◌, inl, inr, refl, sym, ap, subst, append-nil}
 use Rattle.std.specs.Prelude.{All, MatchResult, flat_map}
 use Rattle.std.specs.Io.KnownBytes.{Appends, Keeps}
 use Rattle.std.proofs.KnownBytes.{Appends-trans}
@@ -10,19 +10,20 @@ use Rattle.wad_levels.specs.Called.{is_level_asked}
 use Rattle.wad_levels.specs.declared.entries.LevelEntries.{LevelEntries}
 use Rattle.lump_records.specs.Names.{name_text}
 use Rattle.lump_records.specs.declared.records.Name8.{Name8}
-use Rattle.cli_files.specs.NewFile.{IsMadeOf}
 use Rattle.cli_print.specs.ShownNames.{shown}
 use Rattle.cli_sources.proofs.Opened.{unread_of}
 use Rattle.cli_sources.specs.Unread.{OverWadTold}
-use Rattle.cli_program.specs.Rebuilding.{IsRebuiltAt, IsRebuiltOf, IsToldOf, fate_text, kept_line, kept_fault_lines, kept_notes, kept_of, left_as_text, made_text, status_rebuilt}
+use Rattle.cli_program.specs.Rebuilding.{IsMadeFrom, IsPutInto, IsRebuiltAt, IsRebuiltOf, IsToldOf, MakesNone, PutsNone, fate_text, kept_line, kept_fault_lines, kept_notes, kept_of, left_as_text, made_text, status_rebuilt}
 use Rattle.run_edit.specs.declared.error.EditorError.TheVariants.{WriterFailed}
-use Rattle.wad_rebuild.specs.Rebuilt.{IsFate, IsRebuilt, IsRebuiltWad, kept_in}
+use Rattle.wad_file.specs.Lumps.{IsWadOf, Lump, wad_of, wad_size}
+use Rattle.wad_rebuild.specs.Rebuilt.{IsFate, IsRebuilt, IsRebuiltAs, greatest_size, kept_in, rebuilt_lumps}
+use Rattle.wad_rebuild.specs.Whole.{IsAcceptedWith, IsListOf}
+use Rattle.wad_rebuild.proofs.WholeLemmas.{bytes_refused}
 use Rattle.wad_rebuild.specs.declared.cause.Cause.{Cause}
 use Rattle.wad_rebuild.specs.declared.levels.Fate.{Fate}
 use Rattle.wad_rebuild.specs.declared.levels.Fate.TheVariants.{NotAsked, Made, Left}
 use Rattle.wad_rebuild.specs.declared.levels.RebuiltLevel.{RebuiltLevel}
 use Rattle.wad_rebuild.specs.declared.made.MadeLumps.{MadeLumps}
-use Rattle.wad_rebuild.specs.declared.whole.RebuiltWad.{RebuiltWad}
 use Rattle.cli_refusals.specs.declared.refusal.Refusal.{Refusal}
 use Rattle.cli_refusals.specs.declared.refusal.Refusal.TheVariants.{Lines}
 
@@ -68,18 +69,49 @@ kept_all wad all names (l ∷ ls) each =
 
 -- ---- The WAD
 
--- a file into which these bytes were written behind what a new one had was made of them
-pub made_of : {F : Type 0} (contents : F → Option (List ℕ)) (new file : F) (a b : List ℕ) → a ≡ b → Appends (contents new) (contents file) a → IsMadeOf contents file b
-made_of contents new file a b same put = (new, subst (Appends (contents new) (contents file)) same put)
+-- the lumps were written into a file behind what a new one had
+pub put_into : {F : Type 0} (contents : F → Option (List ℕ)) (wad kind : List ℕ) (levels : List RebuiltLevel) (lumps : List Lump) (size : ℕ) (new file : F) → kind ≡ take 4 wad
+    → IsListOf wad levels lumps → size ≡ wad_size lumps → length (wad_of kind lumps) ≡ wad_size lumps → IsWadOf kind lumps (wad_of kind lumps)
+    → Appends (contents new) (contents file) (wad_of kind lumps) → IsPutInto contents wad levels size file
+put_into contents wad kind levels lumps size new file k l s long is put =
+    record {
+      bytes = wad_of kind lumps;
+      wad_is = subst (λ (w : List ℕ). IsWadOf w (rebuilt_lumps wad levels) (wad_of kind lumps)) k (subst (λ (ls : List Lump). IsWadOf kind ls (wad_of kind lumps)) l.lumps_are is);
+      fits = subst (λ (ls : List Lump). wad_size ls ≤ greatest_size wad) l.lumps_are l.fits;
+      size_is = s ∙ sym long;
+      made = (new, put);
+    }
+
+-- so a WAD with accepted levels was made
+pub made_from : {F : Type 0} (contents : F → Option (List ℕ)) (wad : List ℕ) (names : List (List ℕ)) (levels : List RebuiltLevel) (size : ℕ) (file : F) → IsAcceptedWith wad names levels
+    → IsPutInto contents wad levels size file → IsMadeFrom contents wad names levels size file
+made_from contents wad names levels size file a p =
+    (p.bytes, record { accepted = a.accepted; levels_are = a.levels_are; bytes_are = p.wad_is; fits = p.fits }, p.size_is, p.made)
+
+-- or none
+pub makes_none : (wad : List ℕ) (names : List (List ℕ)) (levels : List RebuiltLevel) (refusal : Refusal) → IsAcceptedWith wad names levels → PutsNone wad levels refusal → MakesNone wad names refusal
+makes_none wad names levels refusal a (inl (e, is, r)) = inl (e, is, bytes_refused wad names levels e a r)
+makes_none wad names levels refusal a (inr is) = inr is
+
+-- what became of levels was told, and the faults that stay, or a writer failed
+abbrev pub IsTold : Result ℕ Refusal → List RebuiltLevel → ℕ → Option (List ℕ) → Option (List ℕ) → Option (List ℕ) → Option (List ℕ) → Type 0
+IsTold how levels size u w d x =
+    MatchResult how (λ status. (status ≡ status_rebuilt levels) × IsToldOf levels size u w × Appends d x (kept_notes levels)) (λ refusal. (refusal ≡ Lines WriterFailed) × (IsToldOf levels size u w ⊎ Keeps d x))
 
 -- a WAD was built anew, and told, or a writer failed
-pub rebuilt_told : (how : Result ℕ Refusal) (wad : List ℕ) (names : List (List ℕ)) (r : RebuiltWad) (u w d x : Option (List ℕ)) → IsRebuiltWad wad names r
-    → MatchResult how (λ status. (status ≡ status_rebuilt r) × IsToldOf r u w × Appends d x (kept_notes r.levels.items)) (λ refusal. (refusal ≡ Lines WriterFailed) × (IsToldOf r u w ⊎ Keeps d x))
+pub rebuilt_told : (how : Result ℕ Refusal) (wad : List ℕ) (names : List (List ℕ)) (levels : List RebuiltLevel) (bytes : List ℕ) (size : ℕ) (u w d x : Option (List ℕ))
+    → IsRebuiltAs wad names levels bytes → size ≡ length bytes → IsTold how levels size u w d x
     → IsRebuiltOf wad names how u w d x
-rebuilt_told (Ok status) wad names r u w d x is (same, told, beside) =
-    (r, is, same, told, subst (Appends d x) (kept_all wad (map (λ (l : RebuiltLevel). l.entries) r.levels.items) names r.levels.items is.levels_are.each) beside)
-rebuilt_told (Err refusal) wad names r u w d x is (failed, inl told) = inr (failed, inl (r, is, told))
-rebuilt_told (Err refusal) wad names r u w d x is (failed, inr kept) = inr (failed, inr kept)
+rebuilt_told (Ok status) wad names levels bytes size u w d x is long (same, told, beside) = (
+  levels,
+  bytes,
+  is,
+  same,
+  subst (λ (n : ℕ). IsToldOf levels n u w) long told,
+  subst (Appends d x) (kept_all wad (map (λ (l : RebuiltLevel). l.entries) levels) names levels is.levels_are.each) beside,
+)
+rebuilt_told (Err refusal) wad names levels bytes size u w d x is long (failed, inl told) = inr (failed, inl (levels, bytes, is, subst (λ (n : ℕ). IsToldOf levels n u w) long told))
+rebuilt_told (Err refusal) wad names levels bytes size u w d x is long (failed, inr kept) = inr (failed, inr kept)
 
 -- the same of a file, which tells no bytes
 pub rebuilt_of_wad : (names : List (List ℕ)) (r s u w d x : Option (List ℕ)) (how : Result ℕ Refusal)

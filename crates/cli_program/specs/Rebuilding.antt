@@ -1,5 +1,5 @@
 -- What `rebuild` tells and answers (docs/COMMANDS.md, "The program").
-use Rattle.std.specs.Prelude.{◌≡◌, ◌⊎◌, ℕ, ◌+◌, ◌/◌, List, [], ◌∷◌, ◌++◌, Option, Result, Ok, Err, codes, count_by, decimal, flat_map, length, map, ◌==◌, Bool, true, false}
+use Rattle.std.specs.Prelude.{◌≡◌, ◌⊎◌, ℕ, ◌+◌, ◌/◌, ◌≤◌, List, [], ◌∷◌, ◌++◌, Option, Result, Ok, Err, codes, count_by, decimal, flat_map, length, map, take, ◌==◌, Bool, true, false}
 use Rattle.std.specs.Io.KnownBytes.{Appends, Keeps}
 use Rattle.run_edit.specs.declared.error.EditorError.TheVariants.{InputTooLong, WriterFailed}
 use Rattle.run_edit.specs.declared.error.InspectError.TheVariants as inspecting
@@ -7,9 +7,12 @@ use Rattle.wad_levels.specs.declared.error.ReadError.TheVariants as reading
 use Rattle.lump_records.specs.Names.{name_text}
 use Rattle.lump_records.specs.declared.records.Name8.{Name8}
 use Rattle.cli_sources.specs.Unread.{EndsUnread}
+use Rattle.cli_files.specs.NewFile.{IsMadeOf}
 use Rattle.cli_print.specs.ShownNames.{shown}
-use Rattle.wad_rebuild.specs.Rebuilt.{IsRebuiltWad, RefusesRebuild, kept_in}
+use Rattle.wad_file.specs.Lumps.{IsWadOf, wad_size}
+use Rattle.wad_rebuild.specs.Rebuilt.{IsRebuiltAs, RefusesRebuild, greatest_size, kept_in, rebuilt_lumps}
 use Rattle.wad_rebuild.specs.Texts.{cause_text, kept_text}
+use Rattle.wad_rebuild.specs.Whole.{RefusesBytes}
 use Rattle.wad_rebuild.specs.declared.cause.Cause.{Cause}
 use Rattle.wad_rebuild.specs.declared.error.RebuildError.{RebuildError}
 use Rattle.wad_rebuild.specs.declared.error.RebuildError.TheVariants as rebuilding
@@ -18,7 +21,6 @@ use Rattle.wad_rebuild.specs.declared.levels.Fate.{Fate}
 use Rattle.wad_rebuild.specs.declared.levels.Fate.TheVariants.{NotAsked, Made, Left}
 use Rattle.wad_rebuild.specs.declared.levels.RebuiltLevel.{RebuiltLevel}
 use Rattle.wad_rebuild.specs.declared.made.MadeLumps.{MadeLumps}
-use Rattle.wad_rebuild.specs.declared.whole.RebuiltWad.{RebuiltWad}
 use Rattle.cli_refusals.specs.Statuses.{status_told}
 use Rattle.cli_refusals.specs.declared.refusal.Refusal.{Refusal}
 use Rattle.cli_refusals.specs.declared.refusal.Refusal.TheVariants as of
@@ -86,22 +88,21 @@ rebuilt_text made asked bytes =
     ++ decimal bytes ++ codes " bytes" ++ 10 ∷ []
 
 -- how many levels were built anew, and how many were left
-abbrev pub made_count : RebuiltWad → ℕ
-made_count r = count_by (λ l. was_made l.fate) r.levels.items
+abbrev pub made_count : List RebuiltLevel → ℕ
+made_count levels = count_by (λ l. was_made l.fate) levels
 
-abbrev pub left_count : RebuiltWad → ℕ
-left_count r = count_by (λ l. was_left l.fate) r.levels.items
+abbrev pub left_count : List RebuiltLevel → ℕ
+left_count levels = count_by (λ l. was_left l.fate) levels
 
--- what became of the levels was told, and behind it how many were built anew
-abbrev pub IsToldOf : RebuiltWad → Option (List ℕ) → Option (List ℕ) → Type 0
-IsToldOf r writer-old writer-new =
-    Appends writer-old writer-new
-    (fate_texts r.levels.items
-    ++ rebuilt_text (made_count r) (made_count r + left_count r) (length r.bytes.items))
+-- what became of levels was told, how many were built anew, and how many bytes the WAD has
+abbrev pub IsToldOf : List RebuiltLevel → ℕ → Option (List ℕ) → Option (List ℕ) → Type 0
+IsToldOf levels size writer-old writer-new =
+    Appends writer-old writer-new (fate_texts levels
+    ++ rebuilt_text (made_count levels) (made_count levels + left_count levels) size)
 
 -- the status that tells whether no level was left
-abbrev pub status_rebuilt : RebuiltWad → ℕ
-status_rebuilt r = status_told (left_count r == 0)
+abbrev pub status_rebuilt : List RebuiltLevel → ℕ
+status_rebuilt levels = status_told (left_count levels == 0)
 
 -- the refusal of a WAD whose levels aren't built anew
 abbrev pub refusal_for : RebuildError → Refusal
@@ -118,12 +119,36 @@ MakesNone wad names refusal =
     ((e : RebuildError) × (refusal ≡ refusal_for e) × RefusesRebuild wad names e)
     ⊎ (refusal ≡ of.Lines WriterFailed)
 
+-- the file was made of the bytes of the WAD with its levels built anew, and has so many
+pub record IsPutInto {F : Type 0} (contents : F → Option (List ℕ)) (wad : List ℕ)
+    (levels : List RebuiltLevel) (size : ℕ) (file : F) : Type 0 where
+  pub bytes : List ℕ
+  pub wad_is : IsWadOf (take 4 wad) (rebuilt_lumps wad levels) bytes
+  pub fits : wad_size (rebuilt_lumps wad levels) ≤ greatest_size wad
+  pub size_is : size ≡ length bytes
+  pub made : IsMadeOf contents file bytes
+
+-- why it wasn't: that WAD would have too many bytes, or no memory is left; or the file can't be made
+abbrev pub PutsNone : List ℕ → List RebuiltLevel → Refusal → Type 0
+PutsNone wad levels refusal =
+    ((e : RebuildError) × (refusal ≡ refusal_for e)
+    × RefusesBytes (greatest_size wad) (rebuilt_lumps wad levels) e)
+    ⊎ (refusal ≡ of.Lines WriterFailed)
+
+-- the same of levels that became what they had to become
+abbrev pub IsMadeFrom : {F : Type 0} → (F → Option (List ℕ)) → List ℕ → List (List ℕ)
+    → List RebuiltLevel → ℕ → F → Type 0
+IsMadeFrom contents wad names levels size file =
+    (bytes : List ℕ) × IsRebuiltAs wad names levels bytes × (size ≡ length bytes)
+    × IsMadeOf contents file bytes
+
 -- what was made of this WAD was told and the faults that stay could not be, or they were not told,
 -- and a writer failed
 abbrev pub IsCutShort : List ℕ → List (List ℕ) → Option (List ℕ) → Option (List ℕ)
     → Option (List ℕ) → Option (List ℕ) → Type 0
 IsCutShort wad names writer-old writer-new errors-old errors-new =
-    ((r : RebuiltWad) × IsRebuiltWad wad names r × IsToldOf r writer-old writer-new)
+    ((levels : List RebuiltLevel) × (bytes : List ℕ) × IsRebuiltAs wad names levels bytes
+    × IsToldOf levels (length bytes) writer-old writer-new)
     ⊎ Keeps errors-old errors-new
 
 -- what became of this WAD was told, and beside it the faults that stay, and the status tells whether
@@ -131,9 +156,9 @@ IsCutShort wad names writer-old writer-new errors-old errors-new =
 abbrev pub IsRebuiltOf : List ℕ → List (List ℕ) → Result ℕ Refusal → Option (List ℕ)
     → Option (List ℕ) → Option (List ℕ) → Option (List ℕ) → Type 0
 IsRebuiltOf wad names (Ok status) writer-old writer-new errors-old errors-new =
-    (r : RebuiltWad) × IsRebuiltWad wad names r × (status ≡ status_rebuilt r)
-    × IsToldOf r writer-old writer-new
-    × Appends errors-old errors-new (kept_fault_lines wad r.levels.items)
+    (levels : List RebuiltLevel) × (bytes : List ℕ) × IsRebuiltAs wad names levels bytes
+    × (status ≡ status_rebuilt levels) × IsToldOf levels (length bytes) writer-old writer-new
+    × Appends errors-old errors-new (kept_fault_lines wad levels)
 IsRebuiltOf wad names (Err refusal) writer-old writer-new errors-old errors-new =
     (MakesNone wad names refusal × Keeps writer-old writer-new × Keeps errors-old errors-new)
     ⊎ ((refusal ≡ of.Lines WriterFailed)

@@ -1,14 +1,49 @@
-//! What the request `rebuild` reports on standard error: the faults that stay in the levels that are built anew.
-ghost use Rattle.std.specs.Prelude.{◌≡◌, MatchResult, flat_map};
+//! How many levels the request `rebuild` built anew or left, and what it reports on standard error: the faults that
+//! stay in those that are built anew.
+ghost use Rattle.std.specs.Prelude.{◌≡◌, MatchResult, count_by, flat_map};
 ghost use Rattle.std.specs.Io.KnownBytes.{Appends};
 ghost use Rattle.run_edit.specs.declared.error.EditorError.TheVariants.{WriterFailed};
-ghost use Rattle.cli_program.specs.Rebuilding.{kept_line, kept_notes, kept_of};
+ghost use Rattle.cli_program.specs.Rebuilding.{kept_line, kept_notes, kept_of, was_left, was_made};
 
 use cli_print::write_shown;
 use lump_records::Name8;
 use run_edit::EditorError;
 use std::io::Write;
 use wad_rebuild::{Fate, KeptFault, RebuiltLevel};
+
+// Whether a level was built anew.
+fn was_made(fate: &Fate) -> bool
+    ensures { result ≡ was_made fate.now }
+{
+    match fate {
+        Fate::Made(_) => true,
+        Fate::NotAsked | Fate::Left(_) => false,
+    }
+}
+
+// Whether a level was left.
+fn was_left(fate: &Fate) -> bool
+    ensures { result ≡ was_left fate.now }
+{
+    match fate {
+        Fate::Left(_) => true,
+        Fate::NotAsked | Fate::Made(_) => false,
+    }
+}
+
+/// How many levels were built anew.
+pub fn made_count(levels: &[RebuiltLevel]) -> usize
+    ensures { result ≡ count_by (λ l. was_made l.fate) levels.now }
+{
+    levels.iter().filter(|level| was_made(&level.fate)).count()
+}
+
+/// How many levels were left.
+pub fn left_count(levels: &[RebuiltLevel]) -> usize
+    ensures { result ≡ count_by (λ l. was_left l.fate) levels.now }
+{
+    levels.iter().filter(|level| was_left(&level.fate)).count()
+}
 
 // The faults that stay in a level, if it is built anew.
 fn kept_of(fate: &Fate) -> &[KeptFault]

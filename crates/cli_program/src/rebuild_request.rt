@@ -1,14 +1,16 @@
 //! The request `rebuild`: builds the levels of a WAD anew, and writes the new WAD into a file.
-ghost use Rattle.std.specs.Prelude.{◌≡◌, ◌≤◌, ◌⊎◌, count_by, IfOk, MatchResult, map, string_bytes};
+ghost use Rattle.std.specs.Prelude.{◌≡◌, ◌<◌, ◌≤◌, ◌⊎◌, length, true, IfOk, MatchResult, map, string_bytes};
 ghost use Rattle.std.specs.Io.KnownBytes.{Appends, Keeps};
-ghost use Rattle.cli_files.specs.NewFile.{IsMadeOf, file_of};
-ghost use Rattle.wad_rebuild.specs.Rebuilt.{IsRebuiltWad};
+ghost use Rattle.cli_files.specs.NewFile.{file_of};
+ghost use Rattle.wad_file.specs.Directory.{is_kind};
+ghost use Rattle.wad_file.specs.Lumps.{IsWadOf, wad_of, wad_size};
+ghost use Rattle.wad_rebuild.specs.Whole.{AreReady};
 ghost use Rattle.run_edit.specs.declared.error.EditorError.TheVariants.{WriterFailed};
 ghost use Rattle.cli_sources.specs.Unread.{OverWadTold};
-ghost use Rattle.cli_program.specs.Rebuilding.{IsRebuiltAt, IsRebuiltOf, IsToldOf, MakesNone, fate_text, fate_texts, items_text, kept_notes, left_as_text, made_text, rebuilt_text, refusal_for, status_rebuilt, was_left, was_made};
+ghost use Rattle.cli_program.specs.Rebuilding.{IsMadeFrom, IsPutInto, IsRebuiltAt, IsRebuiltOf, IsToldOf, MakesNone, PutsNone, fate_text, fate_texts, items_text, kept_notes, left_as_text, made_text, rebuilt_text, refusal_for, status_rebuilt};
 ghost use Rattle.cli_refusals.specs.declared.refusal.Refusal.{Refusal};
 
-use crate::rebuild_notes::write_notes;
+use crate::rebuild_notes::{left_count, made_count, write_notes};
 use cli_files::{Cause, Form, Hold, NewFile, Noted, open_new_of};
 use cli_print::{TURNS, read_wad, write_shown};
 use cli_refusals::{Causes, Refusal, status_told};
@@ -16,7 +18,9 @@ use run_edit::{EditorError, InspectError};
 use std::fs::{self, Files, OpenFile};
 use std::io::{Read, Write};
 use wad_levels::ReadError;
-use wad_rebuild::{Fate, MadeLumps, RebuildError, RebuiltLevel, RebuiltWad, rebuild_wad};
+use wad_rebuild::{
+    AcceptedWad, Fate, LumpList, MadeLumps, RebuildError, RebuiltLevel, list_lumps, rebuild_levels,
+};
 
 // The refusal of the request if the whole WAD is refused.
 fn refusal_of(error: RebuildError) -> Refusal
@@ -123,45 +127,11 @@ fn write_levels<W: Write>(levels: &[RebuiltLevel], writer: &mut W) -> Result<(),
     Ok(())
 }
 
-// Whether a level was built anew.
-fn was_made(fate: &Fate) -> bool
-    ensures { result ≡ was_made fate.now }
-{
-    match fate {
-        Fate::Made(_) => true,
-        Fate::NotAsked | Fate::Left(_) => false,
-    }
-}
-
-// Whether a level was left.
-fn was_left(fate: &Fate) -> bool
-    ensures { result ≡ was_left fate.now }
-{
-    match fate {
-        Fate::Left(_) => true,
-        Fate::NotAsked | Fate::Made(_) => false,
-    }
-}
-
-// How many levels were built anew.
-fn made_count(levels: &[RebuiltLevel]) -> usize
-    ensures { result ≡ count_by (λ l. was_made l.fate) levels.now }
-{
-    levels.iter().filter(|level| was_made(&level.fate)).count()
-}
-
-// How many levels were left.
-fn left_count(levels: &[RebuiltLevel]) -> usize
-    ensures { result ≡ count_by (λ l. was_left l.fate) levels.now }
-{
-    levels.iter().filter(|level| was_left(&level.fate)).count()
-}
-
 // Writes how many levels were built anew, of how many that were asked for, and how long the WAD is.
 fn write_end<W: Write>(
     made: usize,
     asked: usize,
-    bytes: usize,
+    bytes: u64,
     writer: &mut W,
 ) -> Result<(), EditorError>
     ensures { MatchResult result
@@ -177,57 +147,50 @@ fn write_end<W: Write>(
 
 // Writes what became of the levels, flushes the writer, reports the faults that stay, and returns the status.
 fn tell_rebuilt<W: Write, F: Write>(
-    rebuilt: &RebuiltWad,
+    levels: &[RebuiltLevel],
+    size: u64,
     writer: &mut W,
     errors: &mut F,
 ) -> Result<u8, Refusal>
     ensures small { IfOk result (λ s. s ≤ 3) }
     ensures told { MatchResult result
-        (λ status. (status ≡ status_rebuilt rebuilt.now)
-        × IsToldOf rebuilt.now (W.contents writer.old) (W.contents writer.new)
-        × Appends (F.contents errors.old) (F.contents errors.new)
-        (kept_notes rebuilt.now.levels.items))
+        (λ status. (status ≡ status_rebuilt levels.now)
+        × IsToldOf levels.now size (W.contents writer.old) (W.contents writer.new)
+        × Appends (F.contents errors.old) (F.contents errors.new) (kept_notes levels.now))
         (λ refusal. (refusal ≡ Refusal.Lines WriterFailed)
-        × (IsToldOf rebuilt.now (W.contents writer.old) (W.contents writer.new)
+        × (IsToldOf levels.now size (W.contents writer.old) (W.contents writer.new)
         ⊎ Keeps (F.contents errors.old) (F.contents errors.new))) }
 {
-    let made = made_count(&rebuilt.levels);
-    let left = left_count(&rebuilt.levels);
-    write_levels(&rebuilt.levels, writer)?;
-    write_end(made, made + left, rebuilt.bytes.len(), writer)?;
+    let made = made_count(levels);
+    let left = left_count(levels);
+    write_levels(levels, writer)?;
+    write_end(made, made + left, size, writer)?;
     match writer.flush() {
         Ok(()) => {}
         Err(_) => return Err(Refusal::Lines(EditorError::WriterFailed)),
     }
-    write_notes(&rebuilt.levels, errors)?;
+    write_notes(levels, errors)?;
     Ok(status_told(left == 0))
 }
 
-// Writes all bytes of a WAD.
-fn hand_over<W: Write>(bytes: &[u8], writer: &mut W) -> Result<(), EditorError>
-    ensures { MatchResult result
-        (λ _. Appends (W.contents writer.old) (W.contents writer.new) bytes.now)
-        (λ e. e ≡ WriterFailed) }
-{
-    match writer.write_all(bytes) {
-        Ok(()) => Ok(()),
-        Err(_) => Err(EditorError::WriterFailed),
-    }
-}
-
-// Writes the WAD into a new file, which replaces the one at its path once it is whole, and returns that file; or notes
-// why it doesn't.
+// Writes the WAD of these lumps into a new file, which replaces the one at its path once it is whole, and returns that
+// file; or notes why it doesn't.
 fn put_wad<E: Files, F: Write + OpenFile + Drop>(
     rt: &E,
-    bytes: &[u8],
+    kind: &[u8],
+    lumps: &LumpList<'_>,
     mut new: NewFile<F>,
     why: &mut Option<Cause>,
 ) -> Result<F, Refusal>
+    requires kind { is_kind kind.now ≡ true }
+    requires fits { wad_size lumps.now < 4294967296 }
     ensures { MatchResult result
-        (λ file. Appends (F.contents (file_of new)) (F.contents file) bytes.now)
+        (λ file. Appends (F.contents (file_of new)) (F.contents file) (wad_of kind.now lumps.now)
+        × IsWadOf kind.now lumps.now (wad_of kind.now lumps.now)
+        × (length (wad_of kind.now lumps.now) ≡ wad_size lumps.now))
         (λ refusal. refusal ≡ Refusal.Lines WriterFailed) }
 {
-    match hand_over(bytes, &mut new) {
+    match lumps.write_to(kind, &mut new) {
         Ok(()) => match new.put(rt) {
             Ok(file) => Ok(file),
             Err(cause) => {
@@ -235,10 +198,10 @@ fn put_wad<E: Files, F: Write + OpenFile + Drop>(
                 Err(Refusal::Lines(EditorError::WriterFailed))
             }
         },
-        Err(error) => {
+        Err(_) => {
             *why = new.fault();
             new.take_away(rt);
-            Err(Refusal::Lines(error))
+            Err(Refusal::Lines(EditorError::WriterFailed))
         }
     }
 }
@@ -251,10 +214,51 @@ struct Paths<'a> {
     noted: Noted,
 }
 
-// A WAD that was built anew, and the file that holds it.
+// A file that holds a WAD, and how many bytes that has.
+#[derive(Drop)]
+struct Put<F> {
+    size: u64,
+    file: F,
+}
+
+// Writes an accepted WAD with its levels built anew into its new file, lump by lump; or notes why that can't be made.
+fn put_rebuilt<E: AllocGlobal + Files>(
+    rt: &E,
+    paths: Paths<'_>,
+    from: &AcceptedWad<'_>,
+    why: &mut Option<Cause>,
+) -> Result<Put<E::File>, Refusal>
+where
+    E::File: Hold,
+    requires ready { AreReady from.now.wad from.now.levels.items }
+    ensures { MatchResult result
+        (λ put. IsPutInto E.File.contents from.now.wad from.now.levels.items put.size put.file)
+        (PutsNone from.now.wad from.now.levels.items) }
+{
+    let lumps = match list_lumps(rt.alloc(), &from.wad, &from.levels) {
+        Ok(lumps) => lumps,
+        Err(error) => return Err(refusal_of(error)),
+    };
+    let size = lumps.size();
+    let form = Form::Pwad;
+    let new = match open_new_of(rt.alloc(), rt, paths.wad, paths.out, form, paths.noted) {
+        Ok(new) => new,
+        Err(cause) => {
+            *why = Some(cause);
+            return Err(Refusal::Lines(EditorError::WriterFailed));
+        }
+    };
+    match put_wad(rt, from.wad.kind(), &lumps, new, why) {
+        Ok(file) => Ok(Put { size, file }),
+        Err(refusal) => Err(refusal),
+    }
+}
+
+// What became of the levels of a WAD, and the file that holds it with its levels built anew, of so many bytes.
 #[derive(Drop)]
 struct Made<F> {
-    rebuilt: RebuiltWad,
+    levels: Vec<RebuiltLevel>,
+    size: u64,
     file: F,
 }
 
@@ -269,26 +273,21 @@ fn make<E: AllocGlobal + Files>(
 where
     E::File: Hold,
     ensures { MatchResult result
-        (λ made. IsRebuiltWad wad.now (map string_bytes names.now) made.rebuilt
-        × IsMadeOf E.File.contents made.file made.rebuilt.bytes.items)
+        (λ made. IsMadeFrom E.File.contents wad.now (map string_bytes names.now) made.levels.items
+        made.size made.file)
         (MakesNone wad.now (map string_bytes names.now)) }
 {
-    let rebuilt = match rebuild_wad(rt.alloc(), wad, names) {
-        Ok(rebuilt) => rebuilt,
+    let from = match rebuild_levels(rt.alloc(), wad, names) {
+        Ok(from) => from,
         Err(error) => return Err(refusal_of(error)),
     };
-    let form = Form::Pwad;
-    let new = match open_new_of(rt.alloc(), rt, paths.wad, paths.out, form, paths.noted) {
-        Ok(new) => new,
-        Err(cause) => {
-            *why = Some(cause);
-            return Err(Refusal::Lines(EditorError::WriterFailed));
-        }
+    let put = match put_rebuilt(rt, paths, &from, why) {
+        Ok(put) => put,
+        Err(refusal) => return Err(refusal),
     };
-    match put_wad(rt, &rebuilt.bytes, new, why) {
-        Ok(file) => Ok(Made { rebuilt, file }),
-        Err(refusal) => Err(refusal),
-    }
+    let Put { size, file } = put;
+    let AcceptedWad { levels, .. } = from;
+    Ok(Made { levels, size, file })
 }
 
 // Builds the levels of the WAD anew that was read, into its new file, and reports on each.
@@ -312,7 +311,7 @@ where
         (F.contents errors.old) (F.contents errors.new) }
 {
     match make(rt, paths, wad, names, why) {
-        Ok(made) => tell_rebuilt(&made.rebuilt, writer, errors),
+        Ok(made) => tell_rebuilt(&made.levels, made.size, writer, errors),
         Err(refusal) => Err(refusal),
     }
 }

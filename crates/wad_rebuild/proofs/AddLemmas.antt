@@ -1,63 +1,57 @@
 -- Lumps that are appended one behind another.
-use Rattle.std.proofs.Common.{◌≡◌, ◌∙◌, refl, sym, ap, subst, ℕ, suc, ◌+◌, ◌*◌, ◌<◌, ◌≤◌, Bool, true, false, List, [], ◌∷◌, ◌++◌, length, get_or, take, drop, arith, length-append, take-append-drop}
+use Rattle.std.proofs.Common.{◌≡◌, ◌∙◌, refl, sym, ap, subst, ℕ, suc, ◌+◌, ◌*◌, ◌<◌, ◌≤◌, Bool, true, false, List, [], ◌∷◌, ◌++◌, length, get_or, take, drop, arith, append_assoc, append-nil, length-append, take-append-drop}
 use Rattle.std.proofs.Math.Seq.{take-suc, take_all}
-use Rattle.wad_file.specs.Drafts.{Puts, Takes}
 use Rattle.wad_file.specs.Lumps.{Lump, all_bytes, wad_size}
 use Rattle.std.specs.Prelude.{nat_le}
 use Rattle.std.proofs.lemmas.Bool.{leb-false, leb-true}
-use Rattle.wad_file.proofs.DraftLemmas.{all_bytes-length, put_both, put_none}
+use Rattle.wad_file.proofs.DraftLemmas.{all_bytes-length, wad_size-append}
 use Rattle.wad_rebuild.specs.Parts.{AddsLumps, IsWithin, Overfills, RefusesPut}
 use Rattle.wad_rebuild.specs.declared.error.RebuildError.{RebuildError}
 use Rattle.wad_rebuild.specs.declared.parts.BoundedWad.{BoundedWad}
 use Rattle.wad_rebuild.specs.declared.error.RebuildError.TheVariants.{TooLong, NotAWad, DirectoryOutside, NoSuchLevel, LumpOutside, OutOfMemory}
 
+-- these lumps are appended
+add_lumps : (a b : BoundedWad) (xs : List Lump) → b.lumps ≡ a.lumps ++ xs → IsWithin b → b.most ≡ a.most → AddsLumps a b xs
+add_lumps a b xs e t m = record { lumps_are = e; grows = ap wad_size e ∙ wad_size-append a.lumps xs; fits = t; most_stays = m }
+
 -- nothing is appended
 pub add_none : (a : BoundedWad) → IsWithin a → AddsLumps a a []
-add_none a t = record { puts = put_none a.wad t.ready; fits = t; most_stays = refl }
+add_none a t = add_lumps a a [] (sym (append-nil a.lumps)) t refl
 
 -- whether it fits
-one_size : (a : BoundedWad) (x : Lump) (len : ℕ) → IsWithin a → len ≡ length x.bytes → wad_size a.wad.lumps + length a.wad.begun + len + 16 ≡ wad_size a.wad.lumps + length (all_bytes (x ∷ [])) + 16 * length (x ∷ [])
-one_size a x len t l =
-    let n1 = ap (λ (ws : List ℕ). length ws) t.ready in
-    let n2 = length-append x.bytes [] in
-    omega (arith, n1, n2, l)
-
-pub one_short :
-    (a : BoundedWad) (x : Lump) (len : ℕ) (b : Bool) → IsWithin a → len ≡ length x.bytes → b ≡ nat_le (wad_size a.wad.lumps + length a.wad.begun + len + 16) a.most
-    → b ≡ true → wad_size a.wad.lumps + length (all_bytes (x ∷ [])) + 16 * length (x ∷ []) ≤ a.most
-one_short a x len b t l is so =
-    let le : wad_size a.wad.lumps + length a.wad.begun + len + 16 ≤ a.most = leb-true _ _ (sym is ∙ so) in
-    let n = one_size a x len t l in
-    omega (arith, n, le)
+one_size : (a : BoundedWad) (x : Lump) (len : ℕ) → len ≡ length x.bytes → wad_size a.lumps + len + 16 ≡ wad_size a.lumps + length (all_bytes (x ∷ [])) + 16 * length (x ∷ [])
+one_size a x len l = let n = length-append x.bytes [] in omega (arith, n, l)
 
 pub one_fits :
-    (a : BoundedWad) (x : Lump) (len : ℕ) (b : Bool) → IsWithin a → len ≡ length x.bytes → b ≡ nat_le (wad_size a.wad.lumps + length a.wad.begun + len + 16) a.most
-    → b ≡ true → Takes a.wad (x ∷ [])
-one_fits a x len b t l is so =
-    let le = one_short a x len b t l is so in
+    (a : BoundedWad) (x : Lump) (len : ℕ) (b : Bool) → IsWithin a → b ≡ nat_le (wad_size a.lumps + len + 16) a.most → b ≡ true
+    → wad_size a.lumps + len + 16 < 4294967296
+one_fits a x len b t is so =
+    let le : wad_size a.lumps + len + 16 ≤ a.most = leb-true _ _ (sym is ∙ so) in
     let short = t.short in
-    record { ready = t.ready; fits = omega (arith, le, short) }
+    omega (arith, le, short)
 
 pub one_overfills :
-    (a : BoundedWad) (x : Lump) (len : ℕ) (b : Bool) → IsWithin a → len ≡ length x.bytes → b ≡ nat_le (wad_size a.wad.lumps + length a.wad.begun + len + 16) a.most
-    → b ≡ false → Overfills a (x ∷ [])
-one_overfills a x len b t l is so =
-    let lt : a.most < wad_size a.wad.lumps + length a.wad.begun + len + 16 = leb-false _ _ (sym is ∙ so) in
-    let n = one_size a x len t l in
+    (a : BoundedWad) (x : Lump) (len : ℕ) (b : Bool) → len ≡ length x.bytes → b ≡ nat_le (wad_size a.lumps + len + 16) a.most → b ≡ false → Overfills a (x ∷ [])
+one_overfills a x len b l is so =
+    let lt : a.most < wad_size a.lumps + len + 16 = leb-false _ _ (sym is ∙ so) in
+    let n = one_size a x len l in
     omega (arith, n, lt)
 
 -- a lump that fits is appended
 pub add_lump :
-    (a b : BoundedWad) (x : Lump) → IsWithin a → wad_size a.wad.lumps + length (all_bytes (x ∷ [])) + 16 * length (x ∷ []) ≤ a.most → b.most ≡ a.most
-    → Puts a.wad b.wad (x ∷ []) → AddsLumps a b (x ∷ [])
-add_lump a b x t f m p =
-    let n = p.grows in
+    (a b : BoundedWad) (x : Lump) (len : ℕ) (so : Bool) → IsWithin a → len ≡ length x.bytes → so ≡ nat_le (wad_size a.lumps + len + 16) a.most → so ≡ true
+    → b.lumps ≡ a.lumps ++ x ∷ [] → b.most ≡ a.most → AddsLumps a b (x ∷ [])
+add_lump a b x len so t l is fits e m =
+    let le : wad_size a.lumps + len + 16 ≤ a.most = leb-true _ _ (sym is ∙ fits) in
+    let n = one_size a x len l in
+    let g : wad_size b.lumps ≡ wad_size a.lumps + length (all_bytes (x ∷ [])) + 16 * length (x ∷ []) = ap wad_size e ∙ wad_size-append a.lumps (x ∷ []) in
     let short = t.short in
-    record { puts = p; fits = record { ready = p.ready; fits = omega (arith, f, n, m); short = omega (arith, short, m) }; most_stays = m }
+    add_lumps a b (x ∷ []) e (record { fits = omega (arith, le, n, g, m); short = omega (arith, short, m) }) m
 
 -- one list behind another
 pub add_both : (a b c : BoundedWad) (xs ys : List Lump) → AddsLumps a b xs → AddsLumps b c ys → AddsLumps a c (xs ++ ys)
-add_both a b c xs ys p q = record { puts = put_both a.wad b.wad c.wad xs ys p.puts q.puts; fits = q.fits; most_stays = q.most_stays ∙ p.most_stays }
+add_both a b c xs ys p q =
+    add_lumps a c (xs ++ ys) (q.lumps_are ∙ ap (λ (ls : List Lump). ls ++ ys) p.lumps_are ∙ append_assoc a.lumps xs ys) q.fits (q.most_stays ∙ p.most_stays)
 
 overfills_front : (a : BoundedWad) (xs ys : List Lump) → Overfills a xs → Overfills a (xs ++ ys)
 overfills_front a xs ys o =
@@ -69,7 +63,7 @@ overfills_behind : (a b : BoundedWad) (xs ys : List Lump) → AddsLumps a b xs �
 overfills_behind a b xs ys p o =
     let n1 = all_bytes-length xs ys in
     let n2 = length-append xs ys in
-    let n3 = p.puts.grows in
+    let n3 = p.grows in
     let m = p.most_stays in
     omega (arith, n1, n2, n3, m, o)
 

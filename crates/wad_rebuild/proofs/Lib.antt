@@ -1,4 +1,5 @@
 pub mod MadeLemmas
+pub mod ListLemmas
 pub mod AddLemmas
 pub mod PartLemmas
 pub mod WholeLemmas

@@ -1,25 +1,21 @@
 -- What refuses a WAD, and what it has after its levels are built anew.
-use Rattle.std.proofs.Common.{◌≡◌, ◌∙◌, refl, sym, ap, subst, ℕ, zero, suc, ◌+◌, ◌<◌, ◌≤◌, inl, Bool, true, false, ◌&&◌, List, [], ◌∷◌, ◌++◌, length, get_or, take, drop, map, arith, None}
+use Rattle.std.proofs.Common.{◌≡◌, ◌∙◌, refl, sym, ap, subst, ℕ, zero, suc, ◌+◌, ◌<◌, ◌≤◌, inr, Bool, true, false, ◌&&◌, List, [], ◌∷◌, ◌++◌, length, get_or, take, drop, map, arith, None}
 use Rattle.std.specs.Prelude.{All}
 use Rattle.std.specs.List.{list_all, list_any}
 use Rattle.std.proofs.Math.Seq.{take-suc}
 use Rattle.std.proofs.lemmas.List.{map-append, take_all}
 use Rattle.std.proofs.lemmas.List.Elements.{All-nil, All-cons, All-head, All-push, All-tail}
 use Rattle.wad_file.specs.Directory.{entry, entry_text, wad_refusal}
-use Rattle.wad_file.specs.Drafts.{Draft, Takes, no_lumps}
 use Rattle.wad_file.specs.Fields.{same_bytes}
-use Rattle.wad_file.specs.Lumps.{IsWadOf, Lump, wad_size}
 use Rattle.wad_file.proofs.NameLemmas.{any_map}
 use Rattle.wad_levels.specs.Called.{is_asked_of, is_level_asked, last_of_each}
 use Rattle.wad_levels.specs.Entries.{AreLevels, IsLevelAt}
 use Rattle.wad_levels.specs.declared.entries.LevelEntries.{LevelEntries}
-use Rattle.wad_rebuild.specs.Parts.{AddsLumps, IsWithin, RefusesPut}
-use Rattle.wad_rebuild.specs.Rebuilt.{AreRebuilt, IsFate, IsRebuilt, RefusesRebuild, greatest_size, has_level, lumps_refusal, whole_refusal}
-use Rattle.wad_rebuild.specs.Whole.{IsShortWad, RefusesFinding, RefusesBytes}
+use Rattle.wad_rebuild.specs.Rebuilt.{AreRebuilt, IsFate, IsRebuilt, RefusesRebuild, greatest_size, has_level, lumps_refusal, rebuilt_lumps, whole_refusal}
+use Rattle.wad_rebuild.specs.Whole.{IsAcceptedWith, RefusesBytes}
 use Rattle.wad_rebuild.specs.declared.error.RebuildError.{RebuildError}
 use Rattle.wad_rebuild.specs.declared.error.RebuildError.TheVariants.{TooLong, NotAWad, DirectoryOutside, NoSuchLevel, LumpOutside, OutOfMemory}
 use Rattle.wad_rebuild.specs.declared.levels.RebuiltLevel.{RebuiltLevel}
-use Rattle.wad_rebuild.specs.declared.parts.BoundedWad.{BoundedWad}
 
 -- ---- lists
 pub any_here : {X : Type 0} (p : X → Bool) (xs : List X) (i : ℕ) (d : X) → i < length xs → p (get_or xs i d) ≡ true → list_any p (drop i xs) ≡ true
@@ -69,15 +65,6 @@ level_of_name wad name levels a =
 pub of_wad : (wad : List ℕ) (names : List (List ℕ)) → wad_refusal wad ≡ None → whole_refusal wad names ≡ lumps_refusal wad names
 of_wad wad names w = rw w refl
 
--- ---- the whole
-pub not_found : (wad : List ℕ) (names : List (List ℕ)) (e : RebuildError) → wad_refusal wad ≡ None → RefusesFinding wad names e → RefusesRebuild wad names e
-not_found wad names TooLong w r = inl (of_wad wad names w ∙ r)
-not_found wad names NotAWad w r = of_wad wad names w ∙ r
-not_found wad names DirectoryOutside w r = of_wad wad names w ∙ r
-not_found wad names NoSuchLevel w r = of_wad wad names w ∙ r
-not_found wad names LumpOutside w r = of_wad wad names w ∙ r
-not_found wad names OutOfMemory w r = tt
-
 -- ---- the levels so far, each with what becomes of it
 pub is_rebuilt :
     (wad : List ℕ) (levels last : List LevelEntries) (names : List (List ℕ)) (x : RebuiltLevel) (l : LevelEntries) (asked : Bool) → x.entries ≡ l
@@ -118,3 +105,12 @@ all_rebuilt wad names levels n done are s h =
       levels_are = subst (AreLevels wad) (sym e) are;
       each = subst (λ (ls : List LevelEntries). All (IsRebuilt wad ls names) done) (sym e) s.1;
     }
+
+-- what refuses the bytes of an accepted WAD refuses it
+pub bytes_refused : (wad : List ℕ) (names : List (List ℕ)) (levels : List RebuiltLevel) (e : RebuildError) → IsAcceptedWith wad names levels → RefusesBytes (greatest_size wad) (rebuilt_lumps wad levels) e → RefusesRebuild wad names e
+bytes_refused wad names levels TooLong a r = inr (record { accepted = a.accepted; levels = levels; are = a.levels_are; long = r })
+bytes_refused wad names levels NotAWad a r = absurd r
+bytes_refused wad names levels DirectoryOutside a r = absurd r
+bytes_refused wad names levels NoSuchLevel a r = absurd r
+bytes_refused wad names levels LumpOutside a r = absurd r
+bytes_refused wad names levels OutOfMemory a r = tt

@@ -1,5 +1,5 @@
 -- A WAD whose levels are built anew of their own lines, its other lumps as they were (docs/FORMAT.md, "Levels of other WADs").
-use Rattle.std.specs.Prelude.{◌≡◌, ◌≢◌, ◌⊎◌, ℕ, zero, suc, ◌+◌, ◌*◌, ◌-◌, ◌/◌, ◌<◌, ◌≤◌, max, min, Bool, true, false, not, nat_lt, List, [], ◌∷◌, ◌++◌, length, map, filter, take, All, Option, Some, None}
+use Rattle.std.specs.Prelude.{◌≡◌, ◌≢◌, ◌⊎◌, ℕ, zero, suc, ◌+◌, ◌*◌, ◌/◌, ◌<◌, ◌≤◌, max, min, Bool, true, false, not, nat_lt, List, [], ◌∷◌, ◌++◌, length, map, filter, take, All, Option, Some, None}
 use Rattle.std.specs.Option.{option_map, option_or}
 use Rattle.std.specs.List.{list_all, list_any, range_with_len}
 use Rattle.wad_levels.specs.Called.{is_level_asked}
@@ -144,9 +144,14 @@ RefusesRebuild wad names OutOfMemory = Unit {0}
 RefusesRebuild wad names TooLong = (whole_refusal wad names ≡ Some TooLong) ⊎ Outgrows wad names
 RefusesRebuild wad names e = whole_refusal wad names ≡ Some e
 
--- the WAD with its levels built anew, and what became of each
-pub record IsRebuiltWad (wad : List ℕ) (names : List (List ℕ)) (r : RebuiltWad) : Type 0 where
+-- this became of each level of a WAD, and these are its bytes with the levels built anew
+pub record IsRebuiltAs (wad : List ℕ) (names : List (List ℕ)) (levels : List RebuiltLevel)
+    (bytes : List ℕ) : Type 0 where
   pub accepted : whole_refusal wad names ≡ None
-  pub levels_are : AreRebuilt wad names r.levels.items
-  pub bytes_are : IsWadOf (take 4 wad) (rebuilt_lumps wad r.levels.items) r.bytes.items
-  pub fits : wad_size (rebuilt_lumps wad r.levels.items) ≤ greatest_size wad
+  pub levels_are : AreRebuilt wad names levels
+  pub bytes_are : IsWadOf (take 4 wad) (rebuilt_lumps wad levels) bytes
+  pub fits : wad_size (rebuilt_lumps wad levels) ≤ greatest_size wad
+
+-- the WAD with its levels built anew, and what became of each
+abbrev pub IsRebuiltWad : List ℕ → List (List ℕ) → RebuiltWad → Type 0
+IsRebuiltWad wad names r = IsRebuiltAs wad names r.levels.items r.bytes.items

@@ -1,12 +1,13 @@
 -- What is found of a WAD before its levels are built anew, and why it isn't written after.
-use Rattle.std.specs.Prelude.{◌≡◌, ℕ, ◌<◌, ◌≤◌, List, Some, None}
-use Rattle.wad_levels.specs.Entries.{AreLevels}
+use Rattle.std.specs.Prelude.{◌≡◌, ℕ, ◌<◌, ◌≤◌, List, All, Some, None}
+use Rattle.wad_levels.specs.Entries.{AreLevels, IsLevelAt}
 use Rattle.wad_levels.specs.declared.entries.LevelEntries.{LevelEntries}
 use Rattle.wad_file.specs.Lumps.{IsWadOf, Lump, wad_size}
 use Rattle.wad_rebuild.specs.Parts.{HasLumps}
-use Rattle.wad_rebuild.specs.Rebuilt.{lumps_refusal}
+use Rattle.wad_rebuild.specs.Rebuilt.{AreRebuilt, greatest_size, lumps_refusal, rebuilt_lumps, whole_refusal}
 use Rattle.wad_rebuild.specs.declared.error.RebuildError.{RebuildError}
 use Rattle.wad_rebuild.specs.declared.error.RebuildError.TheVariants.{TooLong, NotAWad, DirectoryOutside, NoSuchLevel, LumpOutside, OutOfMemory}
+use Rattle.wad_rebuild.specs.declared.levels.RebuiltLevel.{RebuiltLevel}
 
 -- nothing refuses the WAD, and these are its levels
 pub record IsAcceptedWad (wad : List ℕ) (names : List (List ℕ))
@@ -33,3 +34,23 @@ RefusesBytes most lumps LumpOutside = ⊥
 pub record IsShortWad (kind : List ℕ) (most : ℕ) (lumps : List Lump) (wad : List ℕ) : Type 0 where
   pub wad_is : IsWadOf kind lumps wad
   pub fits : wad_size lumps ≤ most
+
+-- each lump of the WAD stands in the file, and the levels are some of its levels
+pub record AreReady (wad : List ℕ) (levels : List RebuiltLevel) : Type 0 where
+  pub lumps : HasLumps wad
+  pub each : All (λ l. IsLevelAt wad l.entries) levels
+
+-- nothing refuses the WAD before a level is looked at, and these are its levels with what became of
+-- each
+pub record IsAcceptedWith (wad : List ℕ) (names : List (List ℕ))
+    (levels : List RebuiltLevel) : Type 0 where
+  pub accepted : whole_refusal wad names ≡ None
+  pub levels_are : AreRebuilt wad names levels
+  pub ready : AreReady wad levels
+
+-- the lumps are those of the WAD after what became of its levels, and with them it has at most the
+-- bytes that it may have
+pub record IsListOf (wad : List ℕ) (levels : List RebuiltLevel) (lumps : List Lump) : Type 0 where
+  pub lumps_are : lumps ≡ rebuilt_lumps wad levels
+  pub fits : wad_size lumps ≤ greatest_size wad
+  pub short : wad_size lumps < 4294967296

@@ -7,6 +7,7 @@ mod front;
 mod kept;
 mod laws;
 mod levels;
+mod list;
 mod made;
 mod parts;
 mod remade;
@@ -21,6 +22,7 @@ pub use laws::{
     rebuilt_maps_are_built,
 };
 pub use levels::{Fate, RebuiltLevel};
+pub use list::LumpList;
 pub use made::MadeLumps;
 pub use remade::remake;
-pub use whole::{RebuiltWad, rebuild_wad};
+pub use whole::{AcceptedWad, RebuiltWad, list_lumps, rebuild_levels, rebuild_wad};

@@ -8,29 +8,30 @@ ghost use Rattle.wad_rebuild.specs.Rebuilt.{lumps_after, made_lumps, rebuilt_lum
 
 use crate::error::RebuildError;
 use crate::levels::{Fate, RebuiltLevel};
+use crate::list::LumpList;
 use crate::made::MadeLumps;
 use lump_records::Name8;
-use wad_file::{Wad, WadWriter};
+use wad_file::Wad;
 use wad_levels::{LUMP_NAMES, LevelEntries, level_lump};
 
-/// A WAD that is written lump by lump, and may have `most` bytes.
+/// The lumps of a WAD that may have `most` bytes.
 #[derive(Drop)]
-pub struct BoundedWad {
-    pub wad: WadWriter,
+pub struct BoundedWad<'a> {
+    pub lumps: LumpList<'a>,
     pub most: u64,
 }
 
 // Appends a lump.
-fn put_lump(to: &mut BoundedWad, name: Name8, bytes: &[u8]) -> Result<(), RebuildError>
+fn put_lump<'a>(to: &mut BoundedWad<'a>, name: Name8, bytes: &'a [u8]) -> Result<(), RebuildError>
     requires { IsWithin to.old }
     ensures { MatchResult result
         (λ _. AddsLumps to.old to.new (record { name = name; bytes = bytes.now } ∷ []))
         (RefusesPut to.old (record { name = name; bytes = bytes.now } ∷ [])) }
 {
-    if !to.wad.has_room(bytes.len(), to.most) {
+    if !to.lumps.has_room(bytes.len(), to.most) {
         return Err(RebuildError::TooLong);
     }
-    match to.wad.push(name, bytes) {
+    match to.lumps.push(name, bytes) {
         Ok(()) => Ok(()),
         Err(_) => Err(RebuildError::OutOfMemory),
     }
@@ -46,7 +47,7 @@ fn lump_of<'a>(wad: &Wad<'a>, k: u32) -> &'a [u8]
 }
 
 // Appends the lump of the k-th entry.
-fn put_kept(wad: &Wad<'_>, k: u32, to: &mut BoundedWad) -> Result<(), RebuildError>
+fn put_kept<'a>(wad: &Wad<'a>, k: u32, to: &mut BoundedWad<'a>) -> Result<(), RebuildError>
     requires wad { HasLumps wad.now }
     requires among { k < lump_count wad.now }
     requires fits { IsWithin to.old }
@@ -58,7 +59,12 @@ fn put_kept(wad: &Wad<'_>, k: u32, to: &mut BoundedWad) -> Result<(), RebuildErr
 }
 
 // Appends the lumps of the entries from `from` up to `end`, which isn't among them.
-fn put_between(wad: &Wad<'_>, from: u32, end: u32, to: &mut BoundedWad) -> Result<(), RebuildError>
+fn put_between<'a>(
+    wad: &Wad<'a>,
+    from: u32,
+    end: u32,
+    to: &mut BoundedWad<'a>,
+) -> Result<(), RebuildError>
     requires wad { HasLumps wad.now }
     requires among { end ≤ lump_count wad.now }
     requires fits { IsWithin to.old }
@@ -93,11 +99,11 @@ fn made_lump<'a>(wad: &Wad<'a>, level: LevelEntries, made: &'a MadeLumps, n: usi
 }
 
 // Appends the ten lumps of a level that is built anew.
-fn put_ten(
-    wad: &Wad<'_>,
+fn put_ten<'a>(
+    wad: &Wad<'a>,
     level: LevelEntries,
-    made: &MadeLumps,
-    to: &mut BoundedWad,
+    made: &'a MadeLumps,
+    to: &mut BoundedWad<'a>,
 ) -> Result<(), RebuildError>
     requires wad { HasLumps wad.now }
     requires level { IsLevelAt wad.now level }
@@ -116,11 +122,11 @@ fn put_ten(
 }
 
 // Appends the lumps of a level that is built anew.
-fn put_made(
-    wad: &Wad<'_>,
+fn put_made<'a>(
+    wad: &Wad<'a>,
     level: LevelEntries,
-    made: &MadeLumps,
-    to: &mut BoundedWad,
+    made: &'a MadeLumps,
+    to: &mut BoundedWad<'a>,
 ) -> Result<(), RebuildError>
     requires wad { HasLumps wad.now }
     requires level { IsLevelAt wad.now level }
@@ -140,7 +146,11 @@ fn put_made(
 }
 
 // Appends a level's lumps: the new ones if it is built anew, otherwise the old ones.
-fn put_level(wad: &Wad<'_>, level: &RebuiltLevel, to: &mut BoundedWad) -> Result<(), RebuildError>
+fn put_level<'a>(
+    wad: &Wad<'a>,
+    level: &'a RebuiltLevel,
+    to: &mut BoundedWad<'a>,
+) -> Result<(), RebuildError>
     requires wad { HasLumps wad.now }
     requires level { IsLevelAt wad.now level.now.entries }
     requires fits { IsWithin to.old }
@@ -156,11 +166,11 @@ fn put_level(wad: &Wad<'_>, level: &RebuiltLevel, to: &mut BoundedWad) -> Result
 }
 
 // Appends the lumps from the k-th entry up to a level, then those of the level.
-fn put_up_to(
-    wad: &Wad<'_>,
+fn put_up_to<'a>(
+    wad: &Wad<'a>,
     k: u32,
-    level: &RebuiltLevel,
-    to: &mut BoundedWad,
+    level: &'a RebuiltLevel,
+    to: &mut BoundedWad<'a>,
 ) -> Result<(), RebuildError>
     requires wad { HasLumps wad.now }
     requires level { IsLevelAt wad.now level.now.entries }
@@ -180,10 +190,10 @@ fn put_up_to(
 }
 
 /// Appends the lumps of a WAD, with new ones for the levels that are built anew.
-pub fn put_rebuilt(
-    wad: &Wad<'_>,
-    levels: &[RebuiltLevel],
-    to: &mut BoundedWad,
+pub fn put_rebuilt<'a>(
+    wad: &Wad<'a>,
+    levels: &'a [RebuiltLevel],
+    to: &mut BoundedWad<'a>,
 ) -> Result<(), RebuildError>
     requires wad { HasLumps wad.now }
     requires levels { All (λ l. IsLevelAt wad.now l.entries) levels.now }

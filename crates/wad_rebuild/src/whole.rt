@@ -1,16 +1,15 @@
 //! A WAD whose levels are built anew.
-ghost use Rattle.std.specs.Prelude.{◌≡◌, IfErr, IfOk, MatchResult, map, take, string_bytes, All};
-ghost use Rattle.wad_levels.specs.Entries.{AreLevels, IsLevelAt};
-ghost use Rattle.wad_rebuild.specs.Parts.{HasLumps};
+ghost use Rattle.std.specs.Prelude.{◌≡◌, MatchResult, map, take, string_bytes};
 ghost use Rattle.wad_rebuild.specs.Rebuilt.{IsRebuiltWad, RefusesRebuild, greatest_size, rebuilt_lumps};
-ghost use Rattle.wad_rebuild.specs.Whole.{IsAcceptedWad, IsShortWad, RefusesFinding, RefusesBytes};
+ghost use Rattle.wad_rebuild.specs.Whole.{AreReady, IsAcceptedWad, IsAcceptedWith, IsListOf, IsShortWad, RefusesFinding, RefusesBytes};
 
 use crate::error::RebuildError;
-use crate::levels::{Fate, RebuiltLevel, have_levels, rebuilt_levels};
+use crate::levels::{RebuiltLevel, have_levels, rebuilt_levels};
+use crate::list::LumpList;
 use crate::parts::{BoundedWad, put_rebuilt};
 use crate::sizes::{greatest_size, is_crowded};
 use std::alloc::Global;
-use wad_file::{Wad, WadError, WadWriter};
+use wad_file::{Wad, WadError};
 use wad_levels::{LevelEntries, levels_in};
 
 /// A WAD whose levels were built anew, and what became of each of its levels, in the order of the directory.
@@ -46,62 +45,14 @@ fn levels_of(
     Ok(levels)
 }
 
-// The length of the lumps that were made of a level, in bytes.
-fn made_size(fate: &Fate) -> usize {
-    match fate {
-        Fate::Made(made) => made
-            .vertices
-            .len()
-            .saturating_add(made.segs.len())
-            .saturating_add(made.subs.len())
-            .saturating_add(made.nodes.len())
-            .saturating_add(made.reject.len())
-            .saturating_add(made.blockmap.len()),
-        Fate::NotAsked => 0,
-        Fate::Left(_) => 0,
-    }
-}
-
-// Room for the file and what was made, so that the buffer seldom grows; at most `most`.
-fn room_for(wad: &Wad<'_>, levels: &[RebuiltLevel], most: u64) -> usize {
-    let mut room = wad.bytes().len();
-    for n in 0..levels.len() {
-        let level = &levels[n];
-        room = room.saturating_add(made_size(&level.fate));
-    }
-    room.min(most as usize)
-}
-
-// The bytes of the new WAD.
-fn written(alloc: Global, wad: &Wad<'_>, levels: &[RebuiltLevel]) -> Result<Vec<u8>, RebuildError>
-    requires wad { HasLumps wad.now }
-    requires levels { All (λ l. IsLevelAt wad.now l.entries) levels.now }
+// What becomes of the levels of a WAD that nothing refuses.
+fn levels_with(
+    alloc: Global,
+    wad: &Wad<'_>,
+    names: &[String],
+) -> Result<Vec<RebuiltLevel>, RebuildError>
     ensures { MatchResult result
-        (λ v. IsShortWad (take 4 wad.now) (greatest_size wad.now) (rebuilt_lumps wad.now levels.now)
-        v.items)
-        (RefusesBytes (greatest_size wad.now) (rebuilt_lumps wad.now levels.now)) }
-{
-    let most = greatest_size(wad);
-    let begun = WadWriter::begin(alloc, room_for(wad, levels, most), wad.count() as usize);
-    let mut to = match begun {
-        Ok(wad) => BoundedWad { wad, most },
-        Err(_) => return Err(RebuildError::OutOfMemory),
-    };
-    match put_rebuilt(wad, levels, &mut to) {
-        Ok(()) => {}
-        Err(error) => return Err(error),
-    }
-    let BoundedWad { wad: whole, .. } = to;
-    match whole.finish(alloc, wad.kind()) {
-        Ok(bytes) => Ok(bytes),
-        Err(_) => Err(RebuildError::OutOfMemory),
-    }
-}
-
-// Builds the levels of a WAD anew, all or the last one with each of the names.
-fn rebuilt(alloc: Global, wad: &Wad<'_>, names: &[String]) -> Result<RebuiltWad, RebuildError>
-    ensures { MatchResult result
-        (IsRebuiltWad wad.now (map string_bytes names.now))
+        (λ v. IsAcceptedWith wad.now (map string_bytes names.now) v.items)
         (RefusesRebuild wad.now (map string_bytes names.now)) }
 {
     let _ = wad.count();
@@ -109,13 +60,96 @@ fn rebuilt(alloc: Global, wad: &Wad<'_>, names: &[String]) -> Result<RebuiltWad,
         Ok(found) => found,
         Err(error) => return Err(error),
     };
-    let levels = match rebuilt_levels(alloc, wad, names, &found) {
-        Ok(levels) => levels,
+    match rebuilt_levels(alloc, wad, names, &found) {
+        Ok(levels) => Ok(levels),
+        Err(_) => Err(RebuildError::OutOfMemory),
+    }
+}
+
+/// A WAD that nothing refuses, and what becomes of each of its levels, in the order of the directory.
+#[derive(Drop)]
+pub struct AcceptedWad<'a> {
+    pub wad: Wad<'a>,
+    pub levels: Vec<RebuiltLevel>,
+}
+
+/// What becomes of the levels of a WAD: all are built anew, or the last one with each of the names (docs/FORMAT.md,
+/// "WADs built anew"). `list_lumps` then gives the lumps of the new WAD.
+///
+/// # Errors
+///
+/// The first that holds of `NotAWad`, `DirectoryOutside`, `LumpOutside` (of any lump that isn't empty), `TooLong` (the
+/// lumps overlap, and together are more than four times as long as the file), `NoSuchLevel` (no level has a name); or
+/// `OutOfMemory`.
+pub fn rebuild_levels<'a>(
+    alloc: Global,
+    bytes: &'a [u8],
+    names: &[String],
+) -> Result<AcceptedWad<'a>, RebuildError>
+    ensures { MatchResult result
+        (λ a. (a.wad ≡ bytes.now)
+        × IsAcceptedWith bytes.now (map string_bytes names.now) a.levels.items)
+        (RefusesRebuild bytes.now (map string_bytes names.now)) }
+{
+    let wad = match Wad::read(bytes) {
+        Ok(wad) => wad,
+        Err(WadError::NotAWad) => return Err(RebuildError::NotAWad),
+        Err(WadError::DirectoryOutside) => return Err(RebuildError::DirectoryOutside),
+    };
+    match levels_with(alloc, &wad, names) {
+        Ok(levels) => Ok(AcceptedWad { wad, levels }),
+        Err(error) => Err(error),
+    }
+}
+
+/// The lumps of the WAD with its levels built anew, each where it stands: in the old WAD, or among what was made of a
+/// level.
+///
+/// # Errors
+///
+/// `TooLong` if the new WAD would have more bytes than it may have, or `OutOfMemory`.
+pub fn list_lumps<'a>(
+    alloc: Global,
+    wad: &Wad<'a>,
+    levels: &'a [RebuiltLevel],
+) -> Result<LumpList<'a>, RebuildError>
+    requires ready { AreReady wad.now levels.now }
+    ensures { MatchResult result
+        (IsListOf wad.now levels.now)
+        (RefusesBytes (greatest_size wad.now) (rebuilt_lumps wad.now levels.now)) }
+{
+    let most = greatest_size(wad);
+    let mut to = match LumpList::begin(alloc, wad.count() as usize) {
+        Ok(lumps) => BoundedWad { lumps, most },
         Err(_) => return Err(RebuildError::OutOfMemory),
     };
-    match written(alloc, wad, &levels) {
-        Ok(bytes) => Ok(RebuiltWad { bytes, levels }),
-        Err(error) => Err(error),
+    match put_rebuilt(wad, levels, &mut to) {
+        Ok(()) => {}
+        Err(error) => return Err(error),
+    }
+    let BoundedWad { lumps, .. } = to;
+    Ok(lumps)
+}
+
+// The bytes of the new WAD.
+fn written(alloc: Global, wad: &Wad<'_>, levels: &[RebuiltLevel]) -> Result<Vec<u8>, RebuildError>
+    requires ready { AreReady wad.now levels.now }
+    ensures { MatchResult result
+        (λ v. IsShortWad (take 4 wad.now) (greatest_size wad.now) (rebuilt_lumps wad.now levels.now)
+        v.items)
+        (RefusesBytes (greatest_size wad.now) (rebuilt_lumps wad.now levels.now)) }
+{
+    let lumps = match list_lumps(alloc, wad, levels) {
+        Ok(lumps) => lumps,
+        Err(error) => return Err(error),
+    };
+    let mut bytes = match Vec::with_capacity(alloc, lumps.size() as usize) {
+        Ok(bytes) => bytes,
+        Err(_) => return Err(RebuildError::OutOfMemory),
+    };
+    match lumps.write_to(wad.kind(), &mut bytes) {
+        Ok(()) => Ok(bytes),
+        Err(_) => Err(RebuildError::OutOfMemory),
     }
 }
 
@@ -137,9 +171,12 @@ pub fn rebuild_wad(
         (IsRebuiltWad bytes.now (map string_bytes names.now))
         (RefusesRebuild bytes.now (map string_bytes names.now)) }
 {
-    match Wad::read(bytes) {
-        Ok(wad) => rebuilt(alloc, &wad, names),
-        Err(WadError::NotAWad) => Err(RebuildError::NotAWad),
-        Err(WadError::DirectoryOutside) => Err(RebuildError::DirectoryOutside),
+    let AcceptedWad { wad, levels } = match rebuild_levels(alloc, bytes, names) {
+        Ok(accepted) => accepted,
+        Err(error) => return Err(error),
+    };
+    match written(alloc, &wad, &levels) {
+        Ok(bytes) => Ok(RebuiltWad { bytes, levels }),
+        Err(error) => Err(error),
     }
 }

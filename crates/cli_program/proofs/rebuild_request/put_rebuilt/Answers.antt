@@ -1,0 +1,13 @@
+use Rattle.std.proofs.Common.{List, subst}
+use Rattle.cli_files.specs.NewFile.{file_of}
+use Rattle.wad_rebuild.specs.Whole.{IsListOf}
+use Rattle.wad_rebuild.specs.declared.levels.RebuiltLevel.{RebuiltLevel}
+use Rattle.cli_program.proofs.Rebuilding.{put_into}
+use Rattle.cli_program.proofs.rebuild_request.put_rebuilt.Goals as goal
+
+pub returns-in-Ok-put_wad : goal.returns-in-Ok-put_wad
+returns-in-Ok-put_wad g c =
+    let wad = c.args.from.now.wad in
+    let put = c.in-Ok-put_wad.ensures in
+    put_into g.E.File.Write.contents wad c.kind.result.now c.args.from.now.levels.items c.in-Ok.lumps c.size-size.result (file_of c.in-Ok-open_new_of.new) c.in-Ok-put_wad.file
+    c.kind.ensures.bytes (subst (λ (ls : List RebuiltLevel). IsListOf wad ls c.in-Ok.lumps) c.deref.ensures.value c.in-Ok.ensures) c.size-size.ensures put.2 put.1 put.0
