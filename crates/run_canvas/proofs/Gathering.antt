@@ -1,7 +1,6 @@
 -- Commands for which room was made come to wait one behind the other.
-use Rattle.std.proofs.Common.{◌≡◌, ◌∙◌, ◌⊎◌, inl, inr, ℕ, ◌+◌, ◌-◌, ◌≤◌, true, false, List, [], ◌∷◌, ◌++◌, length, Option, Some, None, Result, Ok, Err, refl, sym, ap, subst, arith, length-append}
+use Rattle.std.proofs.Common.{◌≡◌, ◌∙◌, inl, inr, ℕ, ◌+◌, ◌-◌, ◌≤◌, false, List, [], ◌∷◌, ◌++◌, length, Option, Some, None, Result, Ok, Err, refl, sym, ap, subst, arith, length-append}
 use Rattle.std.specs.Prelude.{MatchOption}
-use Rattle.std.specs.Bool.{⊤}
 use Rattle.std.proofs.lemmas.Bool.{true≢false}
 use Rattle.std.proofs.lemmas.List.{map-append}
 use Rattle.store_disk.specs.declared.disk.Disk.{Ghosts}
@@ -13,7 +12,7 @@ use Rattle.store_project.specs.Groups.{CanPut, GroupState, IsFullFor, Staged, st
 use Rattle.store_project.specs.Outcomes.{IsEmptied}
 use Rattle.store_project.specs.States.{State}
 use Rattle.run_canvas.specs.Rooms.{IsCheckpointed, LacksRoomFor, MakesRoom, TurnsFor, waiting_len}
-use Rattle.run_canvas.specs.Waiting.{AreWaiting, CannotWait, ChangesProject, Drawing, IsApplied, IsStaged}
+use Rattle.run_canvas.specs.Waiting.{AreWaiting, CannotWait, ChangesProject, Drawing, IsStaged}
 
 above_more : (room : Option ℕ) (a b : ℕ) → a ≤ b → IsAbove room a → IsAbove room b
 above_more None a b more above = tt
@@ -21,9 +20,6 @@ above_more (Some room) a b more above = omega (arith, more, above)
 
 len_first : (line : List ℕ) (lines : List (List ℕ)) → length (records_bytes (line ∷ lines)) ≡ 5 + length line + length (records_bytes lines)
 len_first line lines = omega (arith, length-append (record_bytes line) (records_bytes lines), length-record line)
-
-no_item : (staged : List Staged) (s : Staged) → ◌≡◌ {A = List Staged} (staged ++ s ∷ []) [] → ⊥
-no_item staged s is = absurd (omega (arith, ap length is, length-append staged (s ∷ [])))
 
 not_err : (n : ℕ) → ◌≡◌ {A = Result ℕ ℕ} (Ok n) (Err 30) → ⊥
 not_err n is = cc
@@ -44,12 +40,6 @@ module _ {D : Type 0} where
       ∙ length-push (staged_lines staged) s.line
       ∙ ap (λ (n : ℕ). n + 5 + length s.line) (sym (waits_len old.project old.group staged before))
 
-  -- the group of commands that wait
-  some_waits : (project : State D) (o : Option GroupState) (staged : List Staged) (s : Staged)
-      → MatchOption o (staged ++ s ∷ [] ≡ []) (λ g. CanPut project g (staged ++ s ∷ [])) → (g : GroupState) × (o ≡ Some g)
-  some_waits project None staged s none = absurd (no_item staged s none)
-  some_waits project (Some g) staged s can = (g, refl)
-
   -- these lines can wait behind what waits
   pub record HaveRoom (d : Drawing D) (lines : List (List ℕ)) : Type 0 where
     pub together : d.is_alone ≡ false
@@ -68,32 +58,29 @@ module _ {D : Type 0} where
             (subst (λ (p : State D). IsAbove p.room (waiting_len new.group + length (records_bytes lines) - 5)) staged.project lacks));
       }
 
+  -- a line for which there is room has it
   never_full : (old : Drawing D) (line : List ℕ) (lines : List (List ℕ)) (o : Option GroupState) → old.group ≡ o → HaveRoom old (line ∷ lines)
-      → MatchOption o ⊤ (λ g. IsFullFor old.project g line) → o ≡ None
-  never_full old line lines None is had full = refl
+      → MatchOption o (IsAbove old.project.room (length line)) (λ g. IsFullFor old.project g line) → ⊥
+  never_full old line lines None is had full =
+      had.room (above_more old.project.room (length line) (waiting_len old.group + length (records_bytes (line ∷ lines)) - 5)
+      (omega (arith, ap waiting_len is, len_first line lines)) full)
   never_full old line lines (Some g) is had full =
-      absurd (had.room (above_more old.project.room (length g.bytes - 1 + length line) (waiting_len old.group + length (records_bytes (line ∷ lines)) - 5)
-      (omega (arith, ap waiting_len is, len_first line lines)) full))
+      had.room (above_more old.project.room (length g.bytes - 1 + length line) (waiting_len old.group + length (records_bytes (line ∷ lines)) - 5)
+      (omega (arith, ap waiting_len is, len_first line lines)) full)
 
-  -- why a command for which there is room was put by itself
-  none_waits : (old : Drawing D) (line : List ℕ) (lines : List (List ℕ)) → HaveRoom old (line ∷ lines) → CannotWait old line → old.group ≡ None
-  none_waits old line lines had (inl alone) = absurd (true≢false (sym alone ∙ had.together))
-  none_waits old line lines had (inr full) = never_full old line lines old.group refl had full
+  -- a command for which there is room can wait
+  can_wait : (old : Drawing D) (line : List ℕ) (lines : List (List ℕ)) → HaveRoom old (line ∷ lines) → CannotWait old line → ⊥
+  can_wait old line lines had (inl alone) = absurd (true≢false (sym alone ∙ had.together))
+  can_wait old line lines had (inr full) = never_full old line lines old.group refl had full
 
 module _ {D : Type 0} (facts : Ghosts D) where
-  -- a command for which there is room waits, or nothing did
-  pub waits_or_none : (old new : Drawing D) (line : List ℕ) (lines : List (List ℕ)) (n : ℕ) → HaveRoom old (line ∷ lines) → ChangesProject facts old line (Ok n) new
-      → (IsStaged old line n new × HaveRoom new lines × ((g : GroupState) × (new.group ≡ Some g))) ⊎ ((old.group ≡ None) × IsApplied facts old line (Ok n) new)
-  waits_or_none old new line lines n had (inl staged) =
-      let (front, before) = staged.had in
-      inl (
-        staged,
-        room_behind old new line lines n had staged,
-        some_waits new.project new.group front (record { line = line; number = n }) (staged.waits front before),
-      )
-  waits_or_none old new line lines n had (inr (inl (why, applied))) = inr (none_waits old line lines had why, applied)
-  waits_or_none old new line lines n had (inr (inr (inl (is, gone)))) = absurd (not_err n is)
-  waits_or_none old new line lines n had (inr (inr (inr (is, gone)))) = absurd (not_err n is)
+  -- an accepted command for which there is room waits
+  pub waits_behind : (old new : Drawing D) (line : List ℕ) (lines : List (List ℕ)) (n : ℕ) → HaveRoom old (line ∷ lines) → ChangesProject facts old line (Ok n) new
+      → IsStaged old line n new × HaveRoom new lines
+  waits_behind old new line lines n had (inl staged) = (staged, room_behind old new line lines n had staged)
+  waits_behind old new line lines n had (inr (inl (why, applied))) = absurd (can_wait old line lines had why)
+  waits_behind old new line lines n had (inr (inr (inl (is, gone)))) = absurd (not_err n is)
+  waits_behind old new line lines n had (inr (inr (inr (is, gone)))) = absurd (not_err n is)
 
   longer : (mid new : Drawing D) (lines : List (List ℕ)) (n : ℕ) → IsCheckpointed facts mid (Ok n) new → mid.group ≡ None → LacksRoomFor new lines
       → new.project.journal ≤ length (records_bytes lines)

@@ -1,7 +1,7 @@
 -- A project with commands of a script that wait, and how they come to wait, are put and are lost.
-use Rattle.std.specs.Prelude.{◌≡◌, ◌⊎◌, ℕ, Bool, true, false, List, [], ◌∷◌, ◌++◌, Option, None, Some, Result, Ok, Err, MatchOption, is_some}
-use Rattle.std.specs.Bool.{⊤}
+use Rattle.std.specs.Prelude.{◌≡◌, ◌⊎◌, ℕ, Bool, true, false, List, [], ◌∷◌, ◌++◌, Option, None, Some, Result, Ok, Err, MatchOption, is_some, length}
 use Rattle.store_disk.specs.declared.disk.Disk.{Ghosts}
+use Rattle.store_journal.specs.State.{IsAbove}
 use Rattle.map_tables.specs.Projects.{ProjectMaps, project_of}
 use Rattle.map_commands.specs.ProjectLines.{Accepts}
 use Rattle.store_project.specs.Calls.{Applies, PutsGroup}
@@ -9,7 +9,7 @@ use Rattle.store_project.specs.Groups.{CanPut, GroupState, IsFullFor, RefusesSta
 use Rattle.store_project.specs.Refusals.{code_of}
 use Rattle.store_project.specs.States.{State}
 use Rattle.store_project.specs.declared.error.ProjectError.{ProjectError}
-use Rattle.store_project.specs.declared.error.ProjectError.TheVariants.{Device}
+use Rattle.store_project.specs.declared.error.ProjectError.TheVariants.{Device, OutOfMemory, Reopen}
 use Rattle.run_edit.specs.Editing.{outcome_in}
 
 -- a project onto which a script is drawn: the project on its disk, the group of commands that wait,
@@ -95,12 +95,20 @@ pub record IsUnchanged {D : Type 0} (old new : Drawing D) : Type 0 where
   pub earlier : new.holds_earlier ≡ old.holds_earlier
   pub flags : AreFlagsKept old new
 
--- a command was decided behind those that wait: it waits too, or is refused
+-- why no group can be begun: the project must be reopened, or there is no memory for its maps again
+abbrev pub RefusesGroup : {D : Type 0} → ProjectError → State D → Type 0
+RefusesGroup Reopen project = project.must_reopen ≡ true
+RefusesGroup OutOfMemory project = project.must_reopen ≡ false
+RefusesGroup _ project = ⊥
+
+-- A command was decided behind those that wait: it waits too, or is refused. If none waits and no
+-- group can be begun, it is refused whatever it says.
 abbrev pub Stages : {D : Type 0} → Drawing D → List ℕ → Result ℕ ℕ → Drawing D → Type 0
 Stages old line (Ok number) new = IsStaged old line number new
 Stages old line (Err code) new = IsUnchanged old new
     × ((e : ProjectError) × (code ≡ code_of e)
-    × RefusesStage e old.project.cap (drawn_maps old) line)
+    × (RefusesStage e old.project.cap (drawn_maps old) line
+    ⊎ ((old.group ≡ None) × RefusesGroup e old.project)))
 
 -- what waited was put, and then the command by itself: `apply` met its contract, and the outcome is
 -- its result
@@ -126,10 +134,11 @@ pub record IsLostWith {D : Type 0} (facts : Ghosts D) (old : Drawing D) (line : 
   pub lost : new.has_lost ≡ false
 
 -- Why a command is put by itself: each one is; or the journal has no room for it behind those that
--- wait; or none waits, and there may be no memory for a group.
+-- wait, or alone if none waits.
 abbrev pub CannotWait : {D : Type 0} → Drawing D → List ℕ → Type 0
-CannotWait old line =
-    (old.is_alone ≡ true) ⊎ MatchOption old.group ⊤ (λ g. IsFullFor old.project g line)
+CannotWait old line = (old.is_alone ≡ true)
+    ⊎ MatchOption old.group (IsAbove old.project.room (length line))
+    (λ g. IsFullFor old.project g line)
 
 -- How a command of a script ended. It was decided behind those that wait; or it was put by itself,
 -- behind what waited; or what was put is lost (30): what waited, or the command with others behind

@@ -1,5 +1,6 @@
 //! A project file, onto which a script is drawn. Its commands wait in a group, and go to the disk together.
-ghost use Rattle.std.specs.Prelude.{◌≡◌, ◌⊎◌, ℕ, List, None, Some, Ok, Err, true, false, Result, MatchOption, map, vec_items};
+ghost use Rattle.std.specs.Prelude.{◌≡◌, ◌⊎◌, ℕ, List, None, Some, Ok, Err, true, false, Result, MatchOption, length, map, vec_items};
+ghost use Rattle.store_journal.specs.State.{IsAbove};
 ghost use Rattle.store_project.specs.Groups.{IsFullFor, IsGroupFor};
 ghost use Rattle.run_edit.specs.Editing.{outcome_in};
 ghost use Rattle.store_project.specs.declared.error.ProjectError.{ProjectError};
@@ -20,7 +21,8 @@ const MOST_STAGED: usize = 65_536;
 
 /// A project onto which a script is drawn. Accepted commands wait in a group, which goes to the disk at once: before
 /// the answer to a query is written, where the next line is begun behind 64 KB of commands, where the journal has no
-/// room for the next command or for all commands of the next shape, and at the script's end.
+/// room for the next command or for all commands of the next shape, and at the script's end. A command is refused (31)
+/// if there is no memory to let it wait.
 pub struct ProjectCanvas<D: Disk> {
     project: Project<D>,
     group: Option<ProjectGroup>,
@@ -110,16 +112,17 @@ impl<D: Disk> ProjectCanvas<D> {
         }
     }
 
-    // Decides a line in a new group, if there is memory for one and the journal has room for the line.
+    // Decides a line in a new group, if the journal has room for it. Where no group can be begun, the line is refused.
     fn stage_first(&mut self, line: &[u8]) -> Option<Result<u32, u16>>
         requires together { self.old.is_alone ≡ false }
         requires none { self.old.group ≡ None }
         ensures staged { MatchOption result (self.new ≡ self.old)
             (λ outcome. Stages self.old line.now outcome self.new) }
+        ensures full { result ≡ None → IsAbove self.old.project.room (length line.now) }
     {
         let mut group = match self.project.begin_group() {
             Ok(group) => group,
-            Err(_) => return None,
+            Err(error) => return Some(Err(error.code())),
         };
         match self.project.stage(&mut group, line) {
             Ok(Some(number)) => {

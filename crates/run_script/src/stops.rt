@@ -39,7 +39,7 @@ pub fn drawings_hold_acknowledged<D: Disk>()
 
 /// The commands that a shape becomes wait together, so that they go to the disk by one call of `put`: it leaves all of
 /// them or none. Otherwise each command is put by itself, as the answers are written; or they are longer than an empty
-/// journal holds; or there was no memory for a group.
+/// journal holds.
 pub fn shapes_wait_together<D: Disk>()
     ensures { (old : Drawing D) (new : Drawing D) (line : List ℕ) (answer : ℕ)
         → old.is_alone ≡ false
