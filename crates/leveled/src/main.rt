@@ -1,18 +1,21 @@
 //! The program `leveled`: passes its arguments to `request`, and the request to `perform` or `perform_typed`.
 #![tactic(auto)]
 
-ghost use Rattle.std.specs.Prelude.{◌≡◌, ◌≤◌, IsTrue, if◌then◌else◌, map};
+ghost use Rattle.std.specs.Prelude.{◌≡◌, ◌≤◌, IsTrue, MatchResult, map};
 ghost use Rattle.leveled.specs.Answers.{AsksForHelp, EndsWords, IsAnswered, IsDoneAnyway};
 
 mod finding;
+mod output;
 
 use crate::finding::with_found;
+use crate::output::NotedOutput;
 use clap::Error;
 use clap::error::ErrorKind;
-use cli_files::NotedFile;
+use cli_files::{Cause, NotedFile, write_cause};
 use cli_program::{perform, perform_typed, takes_lines};
 use cli_words::{CODES, RULE_WORDS, Request, RequestError, SCRIPTS, Topic, request};
 use lump_text::write_shown_lines;
+use std::cell::Cell;
 use std::env::{self, Env, FillError};
 use std::fs::{self, File};
 use std::io::{self, BufWriter, IsTerminal, Read, Write};
@@ -77,15 +80,24 @@ fn refuse_unread(rt: &HostRuntime, error: &io::Error) -> u8
     NO_REQUEST
 }
 
+// Reports why standard output can't be written.
+fn complain_of_output(rt: &HostRuntime, error: io::Error) {
+    let cause = Cause::System(error);
+    let _ = write_cause(rt.alloc(), "standard output", &cause, &mut rt.stderr());
+}
+
 // The status after an attempt to print to standard output what the arguments ask for.
-fn after_printing(rt: &HostRuntime, is_printed: bool) -> u8
-    ensures { result ≡ (if is_printed then 0 else 1) }
+fn after_printing(rt: &HostRuntime, printed: io::Result<()>) -> u8
+    ensures { MatchResult printed (λ _. result ≡ 0) (λ _. result ≡ 1) }
 {
-    if is_printed {
-        return DONE;
+    match printed {
+        Ok(()) => DONE,
+        Err(error) => {
+            let _ = eprintln!(rt; "leveled: 38 WriterFailed");
+            complain_of_output(rt, error);
+            REFUSED
+        }
     }
-    let _ = eprintln!(rt; "leveled: 38 WriterFailed");
-    REFUSED
 }
 
 // Reports clap's answer to arguments that are no request. It may have any of their bytes.
@@ -111,7 +123,7 @@ fn answer_words(rt: &HostRuntime, error: &Error) -> u8
         complain_of_words(rt, error);
         return NO_REQUEST;
     }
-    after_printing(rt, error.print(rt).is_ok())
+    after_printing(rt, error.print(rt))
 }
 
 // Reports a word that no rule has. It may have any bytes.
@@ -146,8 +158,8 @@ fn refuse(rt: &HostRuntime, error: &RequestError) -> u8
 {
     match error {
         RequestError::Words(error) => answer_words(rt, error),
-        RequestError::Help(Topic::Codes) => after_printing(rt, println!(rt; "{CODES}").is_ok()),
-        RequestError::Help(Topic::Scripts) => after_printing(rt, println!(rt; "{SCRIPTS}").is_ok()),
+        RequestError::Help(Topic::Codes) => after_printing(rt, println!(rt; "{CODES}")),
+        RequestError::Help(Topic::Scripts) => after_printing(rt, println!(rt; "{SCRIPTS}")),
         RequestError::Memory => {
             complain_of_memory(rt);
             NO_REQUEST
@@ -248,6 +260,16 @@ fn fill_closed_streams(rt: &HostRuntime) -> [io::Result<File>; 3] {
     ]
 }
 
+// Tells why a request was refused whose answers could not be written.
+fn tell_fault(rt: &HostRuntime, status: u8, fault: Option<io::Error>) {
+    if status != REFUSED {
+        return;
+    }
+    if let Some(error) = fault {
+        complain_of_output(rt, error);
+    }
+}
+
 // Reads the arguments, does what they ask for, and returns the status.
 fn run(rt: &HostRuntime) -> u8
     ensures { result ≤ 3 }
@@ -270,17 +292,21 @@ fn run(rt: &HostRuntime) -> u8
         complain_of_memory(rt);
         return REFUSED;
     };
-    let Ok(mut out) = BufWriter::new(rt.alloc(), rt.stdout()) else {
+    let fault = Cell::new(None);
+    let output = NotedOutput::new(rt.stdout(), &fault);
+    let Ok(mut out) = BufWriter::new(rt.alloc(), output) else {
         complain_of_memory(rt);
         return REFUSED;
     };
-    answer(
+    let status = answer(
         rt,
         texts.as_slice(),
         &mut rt.stdin(),
         &mut out,
         &mut rt.stderr(),
-    )
+    );
+    tell_fault(rt, status, fault.get());
+    status
 }
 
 fn main(rt: HostRuntime) -> ExitCode {
