@@ -96,18 +96,41 @@ fn common_back(one: &[u8], other: &[u8]) -> usize {
         .count()
 }
 
+// The byte of a word at a place, if it is that long.
+fn byte_at(word: &[u8], place: usize) -> Option<u8> {
+    word.get(place).copied()
+}
+
+// Whether the words differ by two letters that stand side by side, in the other order.
+fn are_exchanged(one: &[u8], other: &[u8]) -> bool {
+    let place = common_front(one, other);
+    let next = place.saturating_add(1);
+    let common = place.saturating_add(common_back(one, other));
+    one.len() == other.len()
+        && common.saturating_add(2) == one.len()
+        && byte_at(one, place) == byte_at(other, next)
+        && byte_at(one, next) == byte_at(other, place)
+}
+
 // Whether the words differ by at most one letter: a wrong one, a missing one or an extra one.
-fn is_near(one: &[u8], other: &[u8]) -> bool {
+fn differ_by_one(one: &[u8], other: &[u8]) -> bool {
     let longest = one.len().max(other.len());
     let shortest = one.len().min(other.len());
     let common = common_front(one, other).saturating_add(common_back(one, other));
     longest - shortest <= 1 && longest <= common.saturating_add(1)
 }
 
-/// The form whose first word differs from this one by at most one letter: probably the command or query that is meant.
+/// Whether a word is probably meant as the first word of a form: one letter is wrong, missing or too many, or two
+/// stand in the other order.
+pub fn is_near(word: &str, form: &str) -> bool {
+    let first = first_word(form).as_bytes();
+    differ_by_one(word.as_bytes(), first) || are_exchanged(word.as_bytes(), first)
+}
+
+/// The form of the command or query that is probably meant by a first word.
 pub fn form_near(first: &str) -> Option<&'static str> {
     for form in FORMS {
-        if is_near(first.as_bytes(), first_word(form).as_bytes()) {
+        if is_near(first, form) {
             return Some(*form);
         }
     }

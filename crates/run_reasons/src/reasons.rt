@@ -7,7 +7,7 @@ use crate::calling::says;
 use crate::forms::{count_words, first_word, form_near, form_of, range_at};
 use crate::kind_reasons::{nothing_added, other_kind};
 use crate::particulars::{in_use, map_names, too_long};
-use crate::shape_reasons::{decide, meant_shape, places_of};
+use crate::shape_reasons::{decide, meant_shape, places_of, shape_near};
 use crate::unfit::{form_meant, unfit};
 use lump_records::{Vertex, is_marker, is_name};
 use map_blocks::Stop;
@@ -47,7 +47,7 @@ fn meant(alloc: Global, text: &str) -> Result<String, AllocError> {
                 format!(in alloc; "it has {count} words in place of {wanted}: {form}")
             }
         }
-        None => match form_meant(first).or(form_near(first)) {
+        None => match form_meant(first).or(form_near(first)).or(shape_near(first)) {
             Some(form) => format!(in alloc; "perhaps this is meant: {form}"),
             None => format!(in alloc;
                 "no command, no query and no shape known here begins with {first}"
@@ -314,6 +314,9 @@ pub fn reason_of_reference(
         DrawError::NotANumber | DrawError::NotWhole | DrawError::TooGreat | DrawError::TooDeep => {
             bad_sum(alloc, map, names, line, error)
         }
+        DrawError::NotAReference if line.contains("$(") => format!(in alloc;
+            "in a sum the $ stands before the name, as in ($NAME+2)"
+        ),
         DrawError::NotAReference if line.contains('(') => format!(in alloc;
             "a place is $vertex(X,Y), $line(X,Y), $sector(X,Y) or $thing(X,Y), with or without +N"
         ),

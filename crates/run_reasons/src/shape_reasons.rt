@@ -2,7 +2,8 @@
 ghost use Rattle.std.specs.Prelude.{All};
 ghost use Rattle.map_commands.specs.Step.{InRange};
 
-use crate::forms::first_word;
+use crate::forms::{first_word, is_near};
+use crate::unfit::unfit;
 use map_commands::{Command, ProjectCommand, kind_in, print};
 use map_shapes::{ShapeError, ShapeHead, commands_of, field_text, form_text, read_shape};
 use map_tables::Map;
@@ -15,15 +16,38 @@ pub struct Places {
     pub text: String,
 }
 
+// The first words of shapes.
+const HEADS: [ShapeHead; 4] = [
+    ShapeHead::Area,
+    ShapeHead::Pillar,
+    ShapeHead::Door,
+    ShapeHead::Change,
+];
+
+/// The form of the shape that is probably meant by a first word.
+pub fn shape_near(first: &str) -> Option<&'static str> {
+    for head in HEADS {
+        let form = form_text(head);
+        if is_near(first, form) {
+            return Some(form);
+        }
+    }
+    None
+}
+
 /// What is meant by a line that begins as a shape and is none.
 pub fn meant_shape(alloc: Global, text: &str, head: ShapeHead) -> Result<String, AllocError> {
+    let places = places_of(alloc, text, head)?;
+    if let Some(told) = unfit(alloc, &places.text, &places.form)? {
+        return Ok(told);
+    }
     let form = form_text(head);
     if let ShapeHead::Change = head {
         if let Some(word) = text.split(' ').nth(1) {
             if let Some(kind) = kind_in(word.as_bytes()) {
                 let names = field_text(kind);
                 return format!(in alloc;
-                    "{form} has for a {word} one or more of {names}, each once"
+                    "{form} has for a {word} one or more of {names}, each once, without blanks round the ="
                 );
             }
         }

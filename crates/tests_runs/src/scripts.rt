@@ -243,7 +243,12 @@ const REFUSED: &[(&[u8], &[u8])] = &[
         b"15 BadName\n  sky stands for CN, a name of one to eight of A-Z, 0-9, _, -, [, ] and \\\n"),
     (b"change sector 0 LIGH=9",
         b"1 NotACommand\n  change KIND NUMBER NAME=VALUE .. has for a sector one or more of \
-        F C FN CN LIGHT SPECIAL TAG, each once\n"),
+        F C FN CN LIGHT SPECIAL TAG, each once, without blanks round the =\n"),
+    (b"change sector v LIGHT=9", b"1 NotACommand\n  v stands for NUMBER, a whole number from 0 to 32766\n"),
+    (b"area 0 128 FLOOR4_8 CEIL3_5 STARTAN3 160 0,0 0,9 9,9",
+        b"1 NotACommand\n  0,0 stands for X, a whole number from -16384 to 16383\n"),
+    (b"aera 0", b"1 NotACommand\n  perhaps this is meant: area F C FN CN WALL LIGHT X Y X Y X Y ..\n"),
+    (b"vertex $(v+2) 1", b"21 NotAReference\n  in a sum the $ stands before the name, as in ($NAME+2)\n"),
     (b"door 0 BIGDOOR2", b"1 NotACommand\n  a word is missing, is too many or hasn't the form of its place in: \
         door SECTOR FACE TRACK [SPECIAL]\n"),
     (b"door 0 BIGDOOR2 DOORTRAK", b"29 NoDoor\n  no line has sector 0 on one side and another sector on the other\n"),
