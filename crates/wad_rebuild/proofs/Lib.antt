@@ -3,6 +3,8 @@ pub mod ListLemmas
 pub mod AddLemmas
 pub mod PartLemmas
 pub mod WholeLemmas
+pub mod AlikeLevels
+pub mod AlikeFates
 pub mod ReadBack
 pub mod MapLevels
 pub mod BuildBytes

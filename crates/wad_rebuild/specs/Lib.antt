@@ -9,3 +9,4 @@ pub mod Listed
 pub mod Parts
 pub mod Whole
 pub mod ReadBack
+pub mod Alike

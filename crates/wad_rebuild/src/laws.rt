@@ -1,4 +1,5 @@
 //! Laws about rebuilt levels: the contracts of functions whose bodies are empty.
+ghost use Rattle.wad_rebuild.specs.Alike.{LevelsRestOnTheirLumps};
 ghost use Rattle.wad_rebuild.specs.ReadBack.{BuildsAreDrawnAs, BuildsAreTheRebuiltLumps, RebuiltLevelsReadBack, RebuiltLumpsAreTheBuilds, RebuiltMapsAreBuilt};
 
 /// `read_level` of the bytes that `rebuild_wad` gives returns, for a level that was built anew and that its name finds,
@@ -24,4 +25,10 @@ pub fn rebuilt_lumps_are_the_builds()
 /// same lumps again.
 pub fn built_levels_are_drawn()
     ensures { BuildsAreDrawnAs }
+{}
+
+/// What becomes of each level of a WAD rests on the names in its directory, and on what was drawn of the levels that
+/// are asked for: it is the same in another WAD that has the same ones, whatever else the two hold.
+pub fn levels_rest_on_their_lumps()
+    ensures { LevelsRestOnTheirLumps }
 {}

@@ -18,8 +18,8 @@ pub use cause::Cause;
 pub use error::RebuildError;
 pub use kept::KeptFault;
 pub use laws::{
-    built_levels_are_drawn, rebuilt_levels_read_back, rebuilt_lumps_are_the_builds,
-    rebuilt_maps_are_built,
+    built_levels_are_drawn, levels_rest_on_their_lumps, rebuilt_levels_read_back,
+    rebuilt_lumps_are_the_builds, rebuilt_maps_are_built,
 };
 pub use levels::{Fate, RebuiltLevel};
 pub use list::LumpList;

@@ -62,15 +62,15 @@ fn write_head<W: Write>(
     write_long(place, writer)
 }
 
-// Writes an entry of a directory: offset, size, name.
-fn write_entry<W: Write>(entry: &Entry, writer: &mut W) -> Result<(), WriterFailed>
-    ensures { OnOk result
-        (Appends (W.contents writer.old) (W.contents writer.new) (entry_bytes entry.now)) }
+// The bytes of an entry of a directory: offset, size, name.
+fn bytes_of(entry: &Entry) -> [u8; 16]
+    ensures { result ≡ entry_bytes entry.now }
 {
-    write_long(entry.at, writer)?;
-    write_long(entry.size, writer)?;
-    writer.write_all(&entry.name.bytes)?;
-    Ok(())
+    let mut bytes = [0; 16];
+    bytes[..4].copy_from_slice(&entry.at.to_le_bytes());
+    bytes[4..8].copy_from_slice(&entry.size.to_le_bytes());
+    bytes[8..].copy_from_slice(&entry.name.bytes);
+    bytes
 }
 
 // Writes the lumps one behind another.
@@ -95,9 +95,9 @@ fn write_entries<W: Write>(lumps: &[ListedLump<'_>], writer: &mut W) -> Result<(
         (flat_map listed_entry lumps.now)) }
 {
     for lump in lumps {
-        match write_entry(&lump.entry, writer) {
+        match writer.write_all(&bytes_of(&lump.entry)) {
             Ok(()) => {}
-            Err(error) => return Err(error),
+            Err(_) => return Err(WriterFailed),
         }
     }
     Ok(())
