@@ -1,4 +1,4 @@
--- What becomes of each level of a WAD rests on the names in its directory, and on what was drawn of the levels that are asked for.
+-- What becomes of each level rests on the names in the directory, and on what was drawn of the levels asked for.
 use Rattle.std.proofs.Common.{◌≡◌, ◌∙◌, sym, subst, ℕ, Bool, List, None, get_or, map}
 use Rattle.std.specs.Prelude.{All}
 use Rattle.wad_levels.specs.Called.{is_level_asked}
