@@ -2,9 +2,10 @@
 
 use crate::drawing::{ROOM, SECTOR, TWO_ROOMS, draw, drawn};
 use crate::expect::same;
-use crate::lint::{BRAIN, START, report, report_of};
+use crate::lint::{BRAIN, START, report};
 use map_tables::Maps;
 use std::alloc::Global;
+use std::process::Abort;
 use std::test::Fail;
 
 // Two rooms, and a third one to the west of the first, behind line 0.
@@ -15,103 +16,131 @@ const WEST: [&[u8]; 11] = [
     b"line 6 1 1 0 0 7 -",
 ];
 
-// A line that makes a donut of the sectors with tag 7, and a sector with the tag.
-const DONUT: &[u8] = b"set-line 4 2 4 1 9 7 5 -";
+// In each text below a row has the lines that are drawn, each but the last ended by `;`, and behind a `=` the warnings,
+// each ended by `;`.
 
-// Lines that draw a map, further lines, and its warnings; the brain of a boss is drawn last.
-#[rattlefmt::skip]
-const STOPS: &[(&[&[u8]], &[&[u8]], &str)] = &[
-    // doors: at a wall, and with a room behind
-    (&[ROOM], &[START, b"set-line 0 0 1 1 1 0 0 -"], "door-without-back 0 at (0,0) (0,128)\n"),
-    (&[ROOM], &[START, b"set-line 0 0 1 1 118 0 0 -"], "door-without-back 0 at (0,0) (0,128)\n"),
-    (&TWO_ROOMS, &[START, b"set-line 2 2 3 4 1 0 2 4"], ""),
-    (&TWO_ROOMS, &[START, b"set-line 2 2 3 4 31 0 2 4"], ""),
-    // teleporters: to a landing in the other room, to one in the room itself, to a room without one, and to no room
-    (&TWO_ROOMS, &[START, b"set-line 2 2 3 4 97 7 2 4", b"set-sector 1 0 128 FLOOR4_8 CEIL3_5 160 0 7",
-        b"thing 192 64 90 14 7"], ""),
-    (&TWO_ROOMS, &[START, b"set-line 2 2 3 4 97 7 2 4", b"set-sector 1 0 128 FLOOR4_8 CEIL3_5 160 0 7",
-        b"thing 32 64 90 14 7"], "teleport-nowhere 2 at (128,128) (128,0)\n"),
-    (&TWO_ROOMS, &[START, b"set-line 2 2 3 4 126 7 2 4", b"set-sector 1 0 128 FLOOR4_8 CEIL3_5 160 0 7"],
-        "teleport-nowhere 2 at (128,128) (128,0)\n"),
-    (&TWO_ROOMS, &[START, b"set-line 2 2 3 4 39 7 2 4"], "tag-of-no-sector 2 at (128,128) (128,0)\n"),
-    // locked doors: without a key, with the card, with the skull, and with a key of another colour
-    (&TWO_ROOMS, &[START, b"set-line 2 2 3 4 26 0 2 4"], "key-missing 2 at (128,128) (128,0)\n"),
-    (&TWO_ROOMS, &[START, b"set-line 2 2 3 4 26 0 2 4", b"thing 64 16 90 5 7"], ""),
-    (&TWO_ROOMS, &[START, b"set-line 2 2 3 4 32 0 2 4", b"thing 64 16 90 40 7"], ""),
-    (&TWO_ROOMS, &[START, b"set-line 2 2 3 4 32 0 2 4", b"thing 64 16 90 38 7"],
-        "key-missing 2 at (128,128) (128,0)\n"),
-    (&TWO_ROOMS, &[START, b"set-line 2 2 3 4 34 0 2 4", b"thing 64 16 90 6 7"], ""),
-    (&TWO_ROOMS, &[START, b"set-line 2 2 3 4 27 0 2 4", b"thing 64 16 90 40 7"],
-        "key-missing 2 at (128,128) (128,0)\n"),
-    (&TWO_ROOMS, &[START, b"set-line 2 2 3 4 28 0 2 4", b"thing 64 16 90 13 7"], ""),
-    (&TWO_ROOMS, &[START, b"set-line 2 2 3 4 33 0 2 4", b"thing 64 16 90 5 7"],
-        "key-missing 2 at (128,128) (128,0)\n"),
-    // donuts: the ring's first line has no left side, and then it has one
-    (&TWO_ROOMS, &[START, DONUT, b"set-sector 1 0 128 FLOOR4_8 CEIL3_5 160 0 7"],
-        "donut-without-back 0 at (0,0) (0,128)\n"),
-];
+// Doors at the walls of a room; the brain of a boss is drawn last.
+const ROOM_STOPS: &str =
+    "thing 64 64 90 1 7;set-line 0 0 1 1 1 0 0 -=door-without-back 0 at (0,0) (0,128);\n\
+    thing 64 64 90 1 7;set-line 0 0 1 1 118 0 0 -=door-without-back 0 at (0,0) (0,128);";
+
+// The same in two rooms. Doors with a room behind. Teleporters: to a landing in the other room, to one in the room
+// itself, to a room without one, and to no room. Locked doors: without a key, with the card, with the skull, and with a
+// key of another colour. A donut whose ring's first line has no left side.
+const STOPS: &str = "thing 64 64 90 1 7;set-line 2 2 3 4 1 0 2 4=\n\
+    thing 64 64 90 1 7;set-line 2 2 3 4 31 0 2 4=\n\
+    thing 64 64 90 1 7;set-line 2 2 3 4 97 7 2 4;set-sector 1 0 128 FLOOR4_8 CEIL3_5 160 0 7;thing 192 64 90 14 7=\n\
+    thing 64 64 90 1 7;set-line 2 2 3 4 97 7 2 4;set-sector 1 0 128 FLOOR4_8 CEIL3_5 160 0 7;thing 32 64 90 14 7=\
+    teleport-nowhere 2 at (128,128) (128,0);\n\
+    thing 64 64 90 1 7;set-line 2 2 3 4 126 7 2 4;set-sector 1 0 128 FLOOR4_8 CEIL3_5 160 0 7=\
+    teleport-nowhere 2 at (128,128) (128,0);\n\
+    thing 64 64 90 1 7;set-line 2 2 3 4 39 7 2 4=tag-of-no-sector 2 at (128,128) (128,0);\n\
+    thing 64 64 90 1 7;set-line 2 2 3 4 26 0 2 4=key-missing 2 at (128,128) (128,0);\n\
+    thing 64 64 90 1 7;set-line 2 2 3 4 26 0 2 4;thing 64 16 90 5 7=\n\
+    thing 64 64 90 1 7;set-line 2 2 3 4 32 0 2 4;thing 64 16 90 40 7=\n\
+    thing 64 64 90 1 7;set-line 2 2 3 4 32 0 2 4;thing 64 16 90 38 7=key-missing 2 at (128,128) (128,0);\n\
+    thing 64 64 90 1 7;set-line 2 2 3 4 34 0 2 4;thing 64 16 90 6 7=\n\
+    thing 64 64 90 1 7;set-line 2 2 3 4 27 0 2 4;thing 64 16 90 40 7=key-missing 2 at (128,128) (128,0);\n\
+    thing 64 64 90 1 7;set-line 2 2 3 4 28 0 2 4;thing 64 16 90 13 7=\n\
+    thing 64 64 90 1 7;set-line 2 2 3 4 33 0 2 4;thing 64 16 90 5 7=key-missing 2 at (128,128) (128,0);\n\
+    thing 64 64 90 1 7;set-line 4 2 4 1 9 7 5 -;set-sector 1 0 128 FLOOR4_8 CEIL3_5 160 0 7=\
+    donut-without-back 0 at (0,0) (0,128);";
 
 // Further lines in two rooms with a third one to the west, and the warnings. Pools: the eastern room; the western one,
 // whose ring has it on the left of its first line, so that the second counts; and the middle one, whose own first line
 // has no left side once it is a wall again.
-#[rattlefmt::skip]
-const POOLS: &[(&[&[u8]], &str)] = &[
-    (&[DONUT, b"set-sector 1 0 128 FLOOR4_8 CEIL3_5 160 0 7"], ""),
-    (&[DONUT, b"set-sector 2 0 128 FLOOR4_8 CEIL3_5 160 0 7"], "donut-without-back 1 at (0,128) (128,128)\n"),
-    (&[DONUT, b"set-sector 0 0 128 FLOOR4_8 CEIL3_5 160 0 7"], ""),
-    (&[DONUT, b"set-sector 0 0 128 FLOOR4_8 CEIL3_5 160 0 7", b"set-line 0 0 1 1 0 0 0 6"],
-        "donut-without-back 0 at (0,0) (0,128)\n"),
-];
+const POOLS: &str = "set-line 4 2 4 1 9 7 5 -;set-sector 1 0 128 FLOOR4_8 CEIL3_5 160 0 7=\n\
+    set-line 4 2 4 1 9 7 5 -;set-sector 2 0 128 FLOOR4_8 CEIL3_5 160 0 7=donut-without-back 1 at (0,128) (128,128);\n\
+    set-line 4 2 4 1 9 7 5 -;set-sector 0 0 128 FLOOR4_8 CEIL3_5 160 0 7=\n\
+    set-line 4 2 4 1 9 7 5 -;set-sector 0 0 128 FLOOR4_8 CEIL3_5 160 0 7;set-line 0 0 1 1 0 0 0 6=\
+    donut-without-back 0 at (0,0) (0,128);";
 
 const HALL: &[u8] = b"room 0 0 512 512 0 128 FLOOR4_8 CEIL3_5 STARTAN3 160";
 
 // Further lines in a hall with a start, and the warnings: what ends a level, and what doesn't.
-#[rattlefmt::skip]
-const ENDS: &[(&[&[u8]], &str)] = &[
-    (&[], "no-exit 0\n"),
-    (&[b"set-line 0 0 1 1 11 0 0 -"], ""),
-    (&[b"set-line 0 0 1 1 51 0 0 -"], ""),
-    (&[b"set-line 0 0 1 1 52 0 0 -"], ""),
-    (&[b"set-line 0 0 1 1 124 0 0 -"], ""),
-    (&[b"set-sector 0 0 128 FLOOR4_8 CEIL3_5 160 11 0"], ""),
-    (&[b"set-sector 0 0 128 FLOOR4_8 CEIL3_5 160 16 0"], "no-exit 0\n"),
-    (&[BRAIN], ""),
-    (&[b"thing 256 256 90 16 7"], "no-exit 0\n"),
-    (&[b"name E2M8", b"thing 256 256 90 16 7"], ""),
-    (&[b"name E2M8", b"thing 256 256 90 7 7"], "no-exit 0\n"),
-    (&[b"name E3M8", b"thing 256 256 90 7 7"], ""),
-    (&[b"name E1M8", b"thing 256 256 90 3003 7"], "no-exit 0\n"),
-];
+const ENDS: &str = "=no-exit 0;\n\
+    set-line 0 0 1 1 11 0 0 -=\n\
+    set-line 0 0 1 1 51 0 0 -=\n\
+    set-line 0 0 1 1 52 0 0 -=\n\
+    set-line 0 0 1 1 124 0 0 -=\n\
+    set-sector 0 0 128 FLOOR4_8 CEIL3_5 160 11 0=\n\
+    set-sector 0 0 128 FLOOR4_8 CEIL3_5 160 16 0=no-exit 0;\n\
+    thing 100 100 90 88 7=\n\
+    thing 256 256 90 16 7=no-exit 0;\n\
+    name E2M8;thing 256 256 90 16 7=\n\
+    name E2M8;thing 256 256 90 7 7=no-exit 0;\n\
+    name E3M8;thing 256 256 90 7 7=\n\
+    name E1M8;thing 256 256 90 3003 7=no-exit 0;";
+
+// Draws the lines of a row.
+fn draw_row(maps: &mut Maps, lines: &str) -> Result<(), Fail> {
+    for line in lines.split(';') {
+        if !line.is_empty() {
+            draw(maps, &[line.as_bytes()])?;
+        }
+    }
+    Ok(())
+}
+
+// The warnings of a report are those of a row.
+fn expect_warnings(rt: &impl Abort, row: &str, report: &str, warnings: &str) {
+    let mut wanted = warnings.split(';');
+    for line in report.split('\n') {
+        same(rt, &(row, Some(line)), &(row, wanted.next()));
+    }
+    same(rt, &(row, wanted.next()), &(row, None));
+}
+
+// The map of two lists of lines, the lines of a row, and some last ones has the row's warnings.
+fn expect_row(
+    rt: &impl Abort,
+    alloc: Global,
+    begun: &[&[u8]],
+    then: &[&[u8]],
+    row: &str,
+    last: &[&[u8]],
+) -> Result<(), Fail> {
+    let parts = row.split_once('=');
+    same(rt, &(row, parts.is_some()), &(row, true));
+    let (lines, warnings) = parts.unwrap_or((row, ""));
+    let mut maps = drawn(alloc, begun)?;
+    draw(&mut maps, then)?;
+    draw_row(&mut maps, lines)?;
+    draw(&mut maps, last)?;
+    let found = report(alloc, maps.current())?;
+    expect_warnings(rt, row, found.as_str(), warnings);
+    Ok(())
+}
+
+// The same for each row of a text.
+fn expect_rows(
+    rt: &impl Abort,
+    alloc: Global,
+    begun: &[&[u8]],
+    then: &[&[u8]],
+    rows: &str,
+    last: &[&[u8]],
+) -> Result<(), Fail> {
+    for row in rows.split('\n') {
+        expect_row(rt, alloc, begun, then, row, last)?;
+    }
+    Ok(())
+}
 
 #[test]
 fn games_are_stopped(rt: HostRuntime) -> Result<(), Fail> {
-    for &(lines, further, warnings) in STOPS {
-        let found = report_of(rt.alloc(), lines, further, &[BRAIN])?;
-        same(&rt, &found.as_str(), &warnings);
-    }
-    Ok(())
+    expect_rows(&rt, rt.alloc(), &[ROOM], &[], ROOM_STOPS, &[BRAIN])?;
+    expect_rows(&rt, rt.alloc(), &TWO_ROOMS, &[], STOPS, &[BRAIN])
 }
 
 #[test]
 fn a_donut_looks_across_two_lines(rt: HostRuntime) -> Result<(), Fail> {
-    for &(further, warnings) in POOLS {
-        let mut maps = drawn(rt.alloc(), &TWO_ROOMS)?;
-        draw(&mut maps, &WEST)?;
-        draw(&mut maps, further)?;
-        draw(&mut maps, &[BRAIN])?;
-        let found = report(rt.alloc(), maps.current())?;
-        same(&rt, &found.as_str(), &warnings);
-    }
-    Ok(())
+    expect_rows(&rt, rt.alloc(), &TWO_ROOMS, &WEST, POOLS, &[BRAIN])
 }
 
 #[test]
 fn a_level_has_an_end(rt: HostRuntime) -> Result<(), Fail> {
-    for &(further, warnings) in ENDS {
-        let found = report_of(rt.alloc(), &[HALL], &[START], further)?;
-        same(&rt, &found.as_str(), &warnings);
-    }
-    Ok(())
+    expect_rows(&rt, rt.alloc(), &[HALL, START], &[], ENDS, &[])
 }
 
 // How many lines scroll, and the warnings.
@@ -225,67 +254,55 @@ const BEGUN: [&[u8]; 3] = [HALL, START, EXIT];
 // A further thing in the hall, and the warnings: players, 16 wide to each side, at walls and in a corner; an imp, 20
 // wide, and a spider mastermind, 128 wide, each just a step away from a free place, of 8 and of 12, and one further; a
 // lamp and a barrel, which don't move; an imp in no game.
-#[rattlefmt::skip]
-const AT_WALLS: &[(&[u8], &str)] = &[
-    (b"thing 16 256 90 2 7", ""),
-    (b"thing 15 256 90 2 7", "thing-stuck 1 at (15,256)\n"),
-    (b"thing 496 496 90 2 7", ""),
-    (b"thing 496 497 90 2 7", "thing-stuck 1 at (496,497)\n"),
-    (b"thing 256 500 90 11 7", "few-deathmatch-starts 1\nthing-stuck 1 at (256,500)\n"),
-    (b"thing 500 256 90 3001 7", ""),
-    (b"thing 501 256 90 3001 7", "thing-stuck 1 at (501,256)\n"),
-    (b"thing 396 256 90 7 7", ""),
-    (b"thing 397 256 90 7 7", "thing-stuck 1 at (397,256)\n"),
-    (b"thing 510 256 90 2028 7", ""),
-    (b"thing 256 510 90 2035 7", ""),
-    (b"thing 500 256 90 3001 0", ""),
-];
+const AT_WALLS: &str = "thing 16 256 90 2 7=\n\
+    thing 15 256 90 2 7=thing-stuck 1 at (15,256);\n\
+    thing 496 496 90 2 7=\n\
+    thing 496 497 90 2 7=thing-stuck 1 at (496,497);\n\
+    thing 256 500 90 11 7=few-deathmatch-starts 1;thing-stuck 1 at (256,500);\n\
+    thing 500 256 90 3001 7=\n\
+    thing 501 256 90 3001 7=thing-stuck 1 at (501,256);\n\
+    thing 396 256 90 7 7=\n\
+    thing 397 256 90 7 7=thing-stuck 1 at (397,256);\n\
+    thing 510 256 90 2028 7=\n\
+    thing 256 510 90 2035 7=\n\
+    thing 500 256 90 3001 0=";
 
 // A further thing in the hall, and the warnings: an imp beside the start and across a corner from it; a lamp and a
 // barrel, 16 and 10 wide, which aren't told; what hangs there, not solid and solid; another player; a thing that
 // stands only where several play, and one of a single skill; a start of deathmatches.
-#[rattlefmt::skip]
-const AT_THE_START: &[(&[u8], &str)] = &[
-    (b"thing 100 64 90 3001 7", ""),
-    (b"thing 99 64 90 3001 7", "thing-stuck 0 at (64,64)\n"),
-    (b"thing 92 64 90 3001 7", "thing-stuck 0 at (64,64)\n"),
-    (b"thing 91 64 90 3001 7", "thing-stuck 0 at (64,64)\nthing-stuck 1 at (91,64)\n"),
-    (b"thing 99 100 90 3001 7", ""),
-    (b"thing 99 99 90 3001 7", "thing-stuck 0 at (64,64)\n"),
-    (b"thing 91 91 90 3001 7", "thing-stuck 0 at (64,64)\nthing-stuck 1 at (91,91)\n"),
-    (b"thing 96 64 90 2028 7", ""),
-    (b"thing 95 64 90 2028 7", "thing-stuck 0 at (64,64)\n"),
-    (b"thing 64 90 90 2035 7", ""),
-    (b"thing 64 89 90 2035 7", "thing-stuck 0 at (64,64)\n"),
-    (b"thing 64 64 90 60 7", ""),
-    (b"thing 64 64 90 50 7", "thing-stuck 0 at (64,64)\n"),
-    (b"thing 96 64 90 2 7", ""),
-    (b"thing 95 64 90 2 7", "thing-stuck 0 at (64,64)\nthing-stuck 1 at (95,64)\n"),
-    (b"thing 80 64 90 3001 23", "thing-stuck 0 at (64,64)\nthing-stuck 1 at (80,64)\n"),
-    (b"thing 80 64 90 3001 4", "thing-stuck 0 at (64,64)\nthing-stuck 1 at (80,64)\n"),
-    (b"thing 64 64 90 11 7", "few-deathmatch-starts 1\n"),
-];
+const AT_THE_START: &str = "thing 100 64 90 3001 7=\n\
+    thing 99 64 90 3001 7=thing-stuck 0 at (64,64);\n\
+    thing 92 64 90 3001 7=thing-stuck 0 at (64,64);\n\
+    thing 91 64 90 3001 7=thing-stuck 0 at (64,64);thing-stuck 1 at (91,64);\n\
+    thing 99 100 90 3001 7=\n\
+    thing 99 99 90 3001 7=thing-stuck 0 at (64,64);\n\
+    thing 91 91 90 3001 7=thing-stuck 0 at (64,64);thing-stuck 1 at (91,91);\n\
+    thing 96 64 90 2028 7=\n\
+    thing 95 64 90 2028 7=thing-stuck 0 at (64,64);\n\
+    thing 64 90 90 2035 7=\n\
+    thing 64 89 90 2035 7=thing-stuck 0 at (64,64);\n\
+    thing 64 64 90 60 7=\n\
+    thing 64 64 90 50 7=thing-stuck 0 at (64,64);\n\
+    thing 96 64 90 2 7=\n\
+    thing 95 64 90 2 7=thing-stuck 0 at (64,64);thing-stuck 1 at (95,64);\n\
+    thing 80 64 90 3001 23=thing-stuck 0 at (64,64);thing-stuck 1 at (80,64);\n\
+    thing 80 64 90 3001 4=thing-stuck 0 at (64,64);thing-stuck 1 at (80,64);\n\
+    thing 64 64 90 11 7=few-deathmatch-starts 1;";
 
 // Two further things in the hall, and the warnings: an imp beside the widest thing, to the east and to the north, at a
 // place from which only a step of that thing, or none, leads away; an
 // imp and a demon at one place, with no skill in common, and with one; an imp at a start, which stands in each skill;
 // one at a start of deathmatches.
-#[rattlefmt::skip]
-const IN_PAIRS: &[(&[u8], &[u8], &str)] = &[
-    (b"thing 256 256 90 7 7", b"thing 404 256 90 3001 7", ""),
-    (b"thing 256 256 90 7 7", b"thing 395 256 90 3001 7", "thing-stuck 2 at (395,256)\n"),
-    (b"thing 256 256 90 7 7", b"thing 256 404 90 3001 7", ""),
-    (b"thing 256 256 90 7 7", b"thing 256 395 90 3001 7", "thing-stuck 2 at (256,395)\n"),
-    (b"thing 256 256 90 7 7", b"thing 256 391 90 3001 7",
-        "thing-stuck 1 at (256,256)\nthing-stuck 2 at (256,391)\n"),
-    (b"thing 256 256 90 3001 1", b"thing 256 256 90 3002 6", ""),
-    (b"thing 256 256 90 3001 3", b"thing 256 256 90 3002 6",
-        "thing-stuck 1 at (256,256)\nthing-stuck 2 at (256,256)\n"),
-    (b"thing 256 256 90 2 0", b"thing 256 256 90 3001 4",
-        "thing-stuck 1 at (256,256)\nthing-stuck 2 at (256,256)\n"),
-    (b"thing 256 256 90 11 7", b"thing 256 256 90 3001 7",
-        "few-deathmatch-starts 1\nthing-stuck 1 at (256,256)\nthing-stuck 2 at (256,256)\n"),
-];
+const IN_PAIRS: &str = "thing 256 256 90 7 7;thing 404 256 90 3001 7=\n\
+    thing 256 256 90 7 7;thing 395 256 90 3001 7=thing-stuck 2 at (395,256);\n\
+    thing 256 256 90 7 7;thing 256 404 90 3001 7=\n\
+    thing 256 256 90 7 7;thing 256 395 90 3001 7=thing-stuck 2 at (256,395);\n\
+    thing 256 256 90 7 7;thing 256 391 90 3001 7=thing-stuck 1 at (256,256);thing-stuck 2 at (256,391);\n\
+    thing 256 256 90 3001 1;thing 256 256 90 3002 6=\n\
+    thing 256 256 90 3001 3;thing 256 256 90 3002 6=thing-stuck 1 at (256,256);thing-stuck 2 at (256,256);\n\
+    thing 256 256 90 2 0;thing 256 256 90 3001 4=thing-stuck 1 at (256,256);thing-stuck 2 at (256,256);\n\
+    thing 256 256 90 11 7;thing 256 256 90 3001 7=few-deathmatch-starts 1;thing-stuck 1 at (256,256);\
+    thing-stuck 2 at (256,256);";
 
 // The ends of an upright line and of a sloped one.
 const ENDS_OF_LINES: [&[u8]; 4] = [
@@ -297,91 +314,58 @@ const ENDS_OF_LINES: [&[u8]; 4] = [
 
 // A line with the hall on both sides, a further thing, and the warnings: the line has no flag of a wall, is
 // impassable, or blocks monsters; the thing stands on it, beside it, or at its end.
-#[rattlefmt::skip]
-const AT_LINES: &[(&[u8], &[u8], &str)] = &[
-    (b"line 4 5 4 0 0 0 0", b"thing 256 256 90 3001 7", ""),
-    (b"line 4 5 5 0 0 0 0", b"thing 271 256 90 2 7", "thing-stuck 1 at (271,256)\n"),
-    (b"line 4 5 5 0 0 0 0", b"thing 272 256 90 2 7", ""),
-    (b"line 4 5 6 0 0 0 0", b"thing 256 256 90 2 7", ""),
-    (b"line 4 5 6 0 0 0 0", b"thing 256 256 90 3001 7", "thing-stuck 1 at (256,256)\n"),
-    (b"line 4 5 5 0 0 0 0", b"thing 256 416 90 2 7", ""),
-    (b"line 4 5 5 0 0 0 0", b"thing 256 415 90 2 7", "thing-stuck 1 at (256,415)\n"),
-    (b"line 6 7 5 0 0 0 0", b"thing 182 250 90 2 7", ""),
-    (b"line 6 7 5 0 0 0 0", b"thing 181 250 90 2 7", "thing-stuck 1 at (181,250)\n"),
-    (b"line 6 7 5 0 0 0 0", b"thing 150 282 90 2 7", ""),
-    (b"line 6 7 5 0 0 0 0", b"thing 150 281 90 2 7", "thing-stuck 1 at (150,281)\n"),
-    (b"line 6 7 5 0 0 0 0", b"thing 216 316 90 2 7", ""),
-    (b"line 6 7 5 0 0 0 0", b"thing 215 315 90 2 7", "thing-stuck 1 at (215,315)\n"),
-];
+const AT_LINES: &str = "line 4 5 4 0 0 0 0;thing 256 256 90 3001 7=\n\
+    line 4 5 5 0 0 0 0;thing 271 256 90 2 7=thing-stuck 1 at (271,256);\n\
+    line 4 5 5 0 0 0 0;thing 272 256 90 2 7=\n\
+    line 4 5 6 0 0 0 0;thing 256 256 90 2 7=\n\
+    line 4 5 6 0 0 0 0;thing 256 256 90 3001 7=thing-stuck 1 at (256,256);\n\
+    line 4 5 5 0 0 0 0;thing 256 416 90 2 7=\n\
+    line 4 5 5 0 0 0 0;thing 256 415 90 2 7=thing-stuck 1 at (256,415);\n\
+    line 6 7 5 0 0 0 0;thing 182 250 90 2 7=\n\
+    line 6 7 5 0 0 0 0;thing 181 250 90 2 7=thing-stuck 1 at (181,250);\n\
+    line 6 7 5 0 0 0 0;thing 150 282 90 2 7=\n\
+    line 6 7 5 0 0 0 0;thing 150 281 90 2 7=thing-stuck 1 at (150,281);\n\
+    line 6 7 5 0 0 0 0;thing 216 316 90 2 7=\n\
+    line 6 7 5 0 0 0 0;thing 215 315 90 2 7=thing-stuck 1 at (215,315);";
 
 // A start in a corner, and an end.
 const IN_A_CORNER: [&[u8]; 2] = [b"thing 20 20 90 1 7", EXIT];
 
 // The sectors of two rooms, a thing, and the warnings: a player is 56 high, a cyberdemon 110.
-#[rattlefmt::skip]
-const AT_OPENINGS: &[(&[u8], &[u8], &[u8], &str)] = &[
-    (b"set-sector 0 0 128 FLOOR4_8 CEIL3_5 160 0 0", b"set-sector 1 72 128 FLOOR4_8 CEIL3_5 160 0 0",
-        b"thing 113 64 90 2 7", ""),
-    (b"set-sector 0 0 128 FLOOR4_8 CEIL3_5 160 0 0", b"set-sector 1 73 128 FLOOR4_8 CEIL3_5 160 0 0",
-        b"thing 113 64 90 2 7", "thing-stuck 1 at (113,64)\n"),
-    (b"set-sector 0 0 128 FLOOR4_8 CEIL3_5 160 0 0", b"set-sector 1 73 128 FLOOR4_8 CEIL3_5 160 0 0",
-        b"thing 112 64 90 2 7", ""),
-    (b"set-sector 0 40 128 FLOOR4_8 CEIL3_5 160 0 0", b"set-sector 1 0 96 FLOOR4_8 CEIL3_5 160 0 0",
-        b"thing 120 64 90 2 7", ""),
-    (b"set-sector 0 40 128 FLOOR4_8 CEIL3_5 160 0 0", b"set-sector 1 0 95 FLOOR4_8 CEIL3_5 160 0 0",
-        b"thing 120 64 90 2 7", "thing-stuck 1 at (120,64)\n"),
-    (b"set-sector 0 0 128 FLOOR4_8 CEIL3_5 160 0 0", b"set-sector 1 0 110 FLOOR4_8 CEIL3_5 160 0 0",
-        b"thing 105 64 90 16 7", ""),
-    (b"set-sector 0 0 128 FLOOR4_8 CEIL3_5 160 0 0", b"set-sector 1 0 109 FLOOR4_8 CEIL3_5 160 0 0",
-        b"thing 105 64 90 16 7", "thing-stuck 1 at (105,64)\n"),
-];
+const AT_OPENINGS: &str =
+    "set-sector 0 0 128 FLOOR4_8 CEIL3_5 160 0 0;set-sector 1 72 128 FLOOR4_8 CEIL3_5 160 0 0;\
+    thing 113 64 90 2 7=\n\
+    set-sector 0 0 128 FLOOR4_8 CEIL3_5 160 0 0;set-sector 1 73 128 FLOOR4_8 CEIL3_5 160 0 0;thing 113 64 90 2 7=\
+    thing-stuck 1 at (113,64);\n\
+    set-sector 0 0 128 FLOOR4_8 CEIL3_5 160 0 0;set-sector 1 73 128 FLOOR4_8 CEIL3_5 160 0 0;thing 112 64 90 2 7=\n\
+    set-sector 0 40 128 FLOOR4_8 CEIL3_5 160 0 0;set-sector 1 0 96 FLOOR4_8 CEIL3_5 160 0 0;thing 120 64 90 2 7=\n\
+    set-sector 0 40 128 FLOOR4_8 CEIL3_5 160 0 0;set-sector 1 0 95 FLOOR4_8 CEIL3_5 160 0 0;thing 120 64 90 2 7=\
+    thing-stuck 1 at (120,64);\n\
+    set-sector 0 0 128 FLOOR4_8 CEIL3_5 160 0 0;set-sector 1 0 110 FLOOR4_8 CEIL3_5 160 0 0;thing 105 64 90 16 7=\n\
+    set-sector 0 0 128 FLOOR4_8 CEIL3_5 160 0 0;set-sector 1 0 109 FLOOR4_8 CEIL3_5 160 0 0;thing 105 64 90 16 7=\
+    thing-stuck 1 at (105,64);";
 
 #[test]
 fn walls_hold_things(rt: HostRuntime) -> Result<(), Fail> {
-    for &(thing, warnings) in AT_WALLS {
-        let found = report_of(rt.alloc(), &BEGUN, &[thing], &[])?;
-        same(&rt, &found.as_str(), &warnings);
-    }
-    Ok(())
+    expect_rows(&rt, rt.alloc(), &BEGUN, &[], AT_WALLS, &[])
 }
 
 #[test]
 fn things_hold_a_player(rt: HostRuntime) -> Result<(), Fail> {
-    for &(thing, warnings) in AT_THE_START {
-        let found = report_of(rt.alloc(), &BEGUN, &[thing], &[])?;
-        same(&rt, &found.as_str(), &warnings);
-    }
-    Ok(())
+    expect_rows(&rt, rt.alloc(), &BEGUN, &[], AT_THE_START, &[])
 }
 
 #[test]
 fn things_hold_one_another(rt: HostRuntime) -> Result<(), Fail> {
-    for &(first, second, warnings) in IN_PAIRS {
-        let found = report_of(rt.alloc(), &BEGUN, &[first, second], &[])?;
-        same(&rt, &found.as_str(), &warnings);
-    }
-    Ok(())
+    expect_rows(&rt, rt.alloc(), &BEGUN, &[], IN_PAIRS, &[])
 }
 
 #[test]
 fn lines_hold_things_by_their_flags(rt: HostRuntime) -> Result<(), Fail> {
-    for &(line, thing, warnings) in AT_LINES {
-        let found = report_of(rt.alloc(), &BEGUN, &ENDS_OF_LINES, &[line, thing])?;
-        same(&rt, &found.as_str(), &warnings);
-    }
-    Ok(())
+    expect_rows(&rt, rt.alloc(), &BEGUN, &ENDS_OF_LINES, AT_LINES, &[])
 }
 
 #[test]
 fn low_openings_hold_things(rt: HostRuntime) -> Result<(), Fail> {
-    for &(first, second, thing, warnings) in AT_OPENINGS {
-        let found = report_of(
-            rt.alloc(),
-            &TWO_ROOMS,
-            &IN_A_CORNER,
-            &[first, second, thing],
-        )?;
-        same(&rt, &found.as_str(), &warnings);
-    }
-    Ok(())
+    expect_rows(&rt, rt.alloc(), &TWO_ROOMS, &IN_A_CORNER, AT_OPENINGS, &[])
 }
