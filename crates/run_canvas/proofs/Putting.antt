@@ -1,5 +1,5 @@
 -- How commands come to wait, and how they are put.
-use Rattle.std.proofs.Common.{◌≡◌, ◌∙◌, ◌⊎◌, inl, inr, ℕ, Bool, true, false, List, [], ◌∷◌, ◌++◌, Option, Some, None, Result, Ok, Err, refl, sym, ap, subst, append-nil}
+use Rattle.std.proofs.Common.{◌≡◌, ◌∙◌, ◌⊎◌, inl, inr, ℕ, true, false, List, [], ◌∷◌, ◌++◌, Option, Some, None, Result, Ok, Err, refl, sym, ap, subst, append-nil}
 use Rattle.std.specs.Prelude.{MatchOption, is_some}
 use Rattle.std.proofs.lemmas.Bool.{true≢false}
 use Rattle.store_disk.specs.Moments.{LeavesOnly}
@@ -14,15 +14,7 @@ use Rattle.store_project.specs.declared.error.ProjectError.{ProjectError}
 use Rattle.store_project.specs.declared.error.ProjectError.TheVariants.{Device, OutOfMemory, Reopen, GenerationsSpent, Refused, Damaged, Blank, NotAProject, NotEmpty, BadGeometry}
 use Rattle.run_canvas.specs.Waiting.{AreFlagsKept, CannotWait, ChangesProject, Drawing, IsApplied, IsStaged, IsUnchanged, Loses, Settles, AreWaiting, drawn_maps, maps_behind}
 use Rattle.run_canvas.specs.LossLaws.{lost_unchanged}
-use Rattle.run_canvas.specs.Rooms.{MakesRoom, PutsBefore, TurnsFor}
-
-not_refused : {T E : Type 0} (x : T) (e : E) → Ok x ≡ Err e → ⊥
-not_refused x e same = cc
-
--- what was begun needn't be reopened
-pub ready_of : {T E : Type 0} (b : Bool) (x : T) (e : E) → (b ≡ true → Ok x ≡ Err e) → b ≡ false
-ready_of false x e refused = refl
-ready_of true x e refused = absurd (not_refused x e (refused refl))
+use Rattle.run_canvas.specs.Rooms.{BeginsGroup, ClearsJournal, MakesRoom, PutsBefore, TurnsFor}
 
 module _ {D : Type 0} (facts : Ghosts D) where
   is_device : (e : ProjectError) (old new : State D) → RefusesToPut facts e old new → old.must_reopen ≡ false → e ≡ Device
@@ -124,7 +116,7 @@ module _ {D : Type 0} (facts : Ghosts D) where
       → IsApplied facts mid line outcome new ⊎ ((outcome ≡ Err 30) × Loses facts mid new) → ChangesProject facts old line outcome new
   alone_behind old mid new line outcome why same (inl applied) = inr (inl (
     why,
-    record {
+    inl (record {
       mid = applied.mid;
       settled = unchanged_settled old mid applied.mid same applied.settled;
       answer = applied.answer;
@@ -132,13 +124,18 @@ module _ {D : Type 0} (facts : Ghosts D) where
       is = applied.is;
       none = applied.none;
       flags = record { alone = applied.flags.alone ∙ same.flags.alone; lost = applied.flags.lost ∙ same.flags.lost };
-    },
+    }),
   ))
-  alone_behind old mid new line outcome why same (inr (is, gone)) = inr (inr (inl (is, lost_unchanged facts old mid new same gone)))
+  alone_behind old mid new line outcome why same (inr (is, gone)) = inr (inl (why, inr (is, lost_unchanged facts old mid new same gone)))
 
   -- ---- Room for lines that are to wait together
 
   pub turned_behind : (old mid new : Drawing D) (lines : List (List ℕ)) (refusal : Option ℕ) → PutsBefore facts old lines mid → TurnsFor facts mid lines refusal new
-      → MakesRoom facts old lines refusal new
+      → ClearsJournal facts old lines refusal new
   turned_behind old mid new lines None put turns = inr (mid, put, turns)
   turned_behind old mid new lines (Some code) put turns = inr (mid, put, turns)
+
+  pub group_behind : (old mid new : Drawing D) (lines : List (List ℕ)) (refusal : Option ℕ) → old.is_alone ≡ false → ClearsJournal facts old lines None mid
+      → BeginsGroup mid refusal new → MakesRoom facts old lines refusal new
+  group_behind old mid new lines None together clears begins = inr (together, mid, clears, begins)
+  group_behind old mid new lines (Some code) together clears begins = (together, inr (mid, clears, begins))

@@ -97,8 +97,7 @@ module _ {D : Type 0} (facts : Ghosts D) where
       inr (
         earlier,
         staged.together,
-        inr (inr (inr
-            (refl, lost_first old new last line n is earlier staged lost))),
+        inr (inr (refl, lost_first old new last line n is earlier staged lost)),
       )
   staged_since old new last line n (Some g) is staged lost =
       let earlier : new.holds_earlier ≡ old.holds_earlier =
@@ -115,9 +114,9 @@ module _ {D : Type 0} (facts : Ghosts D) where
       (inl staged) lost = staged_since old new last line n old.group refl staged lost
   lost_since old new last line (Err code) (inl (same, refused)) lost = inl
       (same.earlier, lost_unchanged old new last same lost)
-  lost_since old new last line outcome (inr (inl (why, applied))) lost = absurd
+  lost_since old new last line outcome (inr (inl (why, inl applied))) lost = absurd
       (none_lost new last applied.none lost)
-  lost_since old new last line outcome (inr (inr (inl (is, gone)))) lost = absurd
+  lost_since old new last line outcome (inr (inl (why, inr (is, gone)))) lost = absurd
       (none_lost new last gone.none lost)
-  lost_since old new last line outcome (inr (inr (inr (is, gone)))) lost = absurd
+  lost_since old new last line outcome (inr (inr (is, gone))) lost = absurd
       (none_lost new last gone.none lost)

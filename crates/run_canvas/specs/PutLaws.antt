@@ -23,19 +23,21 @@ module _ {D : Type 0} (facts : Ghosts D) where
       → ChangesProject facts old line (Err code) new → new.has_lost ≡ true
       → (old.has_lost ≡ true) ⊎ ((code ≡ 30) × (old.holds_earlier ≡ true) × Loses facts old new)
   lost_within old new line code (inl (same, refused)) is = inl (sym same.flags.lost ∙ is)
-  lost_within old new line code (inr (inl (why, applied))) is = inl (sym applied.flags.lost ∙ is)
-  lost_within old new line code (inr (inr (inl (err, gone)))) is = inr
+  lost_within old new line code (inr (inl (why, inl applied))) is = inl
+      (sym applied.flags.lost ∙ is)
+  lost_within old new line code (inr (inl (why, inr (err, gone)))) is = inr
       (err_is code 30 err, sym gone.lost ∙ is, gone)
-  lost_within old new line code (inr (inr (inr (err, gone)))) is = absurd (true≢false
+  lost_within old new line code (inr (inr (err, gone))) is = absurd (true≢false
       (sym is ∙ gone.lost))
 
   pub alone_stays : (old new : Drawing D) (line : List ℕ) (n : ℕ)
       → ChangesProject facts old line (Ok n) new
       → (new.is_alone ≡ old.is_alone) × (new.has_lost ≡ old.has_lost)
   alone_stays old new line n (inl staged) = (staged.flags.alone, staged.flags.lost)
-  alone_stays old new line n (inr (inl (why, applied))) = (applied.flags.alone, applied.flags.lost)
-  alone_stays old new line n (inr (inr (inl (is, gone)))) = absurd (not_ok n 30 is)
-  alone_stays old new line n (inr (inr (inr (is, gone)))) = absurd (not_ok n 30 is)
+  alone_stays old new line n (inr (inl (why, inl applied))) =
+      (applied.flags.alone, applied.flags.lost)
+  alone_stays old new line n (inr (inl (why, inr (is, gone)))) = absurd (not_ok n 30 is)
+  alone_stays old new line n (inr (inr (is, gone))) = absurd (not_ok n 30 is)
 
   pub nothing_told : (old new last : Drawing D) (line : List ℕ) (refusal : Option ℕ) (u w : Option
       (List ℕ)) → TellsBehind facts old line refusal new u w
@@ -104,6 +106,7 @@ module _ {D : Type 0} (facts : Ghosts D) where
   at_line mid alone = record {
     project = mid.project;
     group = mid.group;
+    has_spare = mid.has_spare;
     is_alone = alone;
     holds_earlier = is_some mid.group;
     has_lost = false;
@@ -118,6 +121,7 @@ module _ {D : Type 0} (facts : Ghosts D) where
       let other : Drawing D = record {
         project = last.project;
         group = last.group;
+        has_spare = last.has_spare;
         is_alone =
             last.is_alone;
         holds_earlier = last.holds_earlier;

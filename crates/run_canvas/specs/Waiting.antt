@@ -9,15 +9,17 @@ use Rattle.store_project.specs.Groups.{CanPut, GroupState, IsFullFor, RefusesSta
 use Rattle.store_project.specs.Refusals.{code_of}
 use Rattle.store_project.specs.States.{State}
 use Rattle.store_project.specs.declared.error.ProjectError.{ProjectError}
-use Rattle.store_project.specs.declared.error.ProjectError.TheVariants.{Device, OutOfMemory, Reopen}
+use Rattle.store_project.specs.declared.error.ProjectError.TheVariants.{Device}
 use Rattle.run_edit.specs.Editing.{outcome_in}
 
 -- a project onto which a script is drawn: the project on its disk, the group of commands that wait,
--- if any do, whether each command is put by itself, whether some that wait came with earlier lines
--- than the one at hand, and whether such were lost by it
+-- if any do, whether an empty group is kept for the next that is to wait, whether each command is put
+-- by itself, whether some that wait came with earlier lines than the one at hand, and whether such
+-- were lost by it
 pub record Drawing (D : Type 0) : Type 0 where
   pub project : State D
   pub group : Option GroupState
+  pub has_spare : Bool
   pub is_alone : Bool
   pub holds_earlier : Bool
   pub has_lost : Bool
@@ -27,6 +29,7 @@ abbrev pub first_drawing : {D : Type 0} → State D → Drawing D
 first_drawing project = record {
   project = project;
   group = None;
+  has_spare = false;
   is_alone = false;
   holds_earlier = false;
   has_lost = false;
@@ -95,20 +98,12 @@ pub record IsUnchanged {D : Type 0} (old new : Drawing D) : Type 0 where
   pub earlier : new.holds_earlier ≡ old.holds_earlier
   pub flags : AreFlagsKept old new
 
--- why no group can be begun: the project must be reopened, or there is no memory for its maps again
-abbrev pub RefusesGroup : {D : Type 0} → ProjectError → State D → Type 0
-RefusesGroup Reopen project = project.must_reopen ≡ true
-RefusesGroup OutOfMemory project = project.must_reopen ≡ false
-RefusesGroup _ project = ⊥
-
--- A command was decided behind those that wait: it waits too, or is refused. If none waits and no
--- group can be begun, it is refused whatever it says.
+-- a command was decided behind those that wait: it waits too, or is refused
 abbrev pub Stages : {D : Type 0} → Drawing D → List ℕ → Result ℕ ℕ → Drawing D → Type 0
 Stages old line (Ok number) new = IsStaged old line number new
 Stages old line (Err code) new = IsUnchanged old new
     × ((e : ProjectError) × (code ≡ code_of e)
-    × (RefusesStage e old.project.cap (drawn_maps old) line
-    ⊎ ((old.group ≡ None) × RefusesGroup e old.project)))
+    × RefusesStage e old.project.cap (drawn_maps old) line)
 
 -- what waited was put, and then the command by itself: `apply` met its contract, and the outcome is
 -- its result
@@ -134,22 +129,23 @@ pub record IsLostWith {D : Type 0} (facts : Ghosts D) (old : Drawing D) (line : 
   pub lost : new.has_lost ≡ false
 
 -- Why a command is put by itself: each one is; or the journal has no room for it behind those that
--- wait, or alone if none waits.
+-- wait, or alone if none waits; or none waits and no empty group is kept, and there may be no memory
+-- for one.
 abbrev pub CannotWait : {D : Type 0} → Drawing D → List ℕ → Type 0
 CannotWait old line = (old.is_alone ≡ true)
-    ⊎ MatchOption old.group (IsAbove old.project.room (length line))
+    ⊎ MatchOption old.group
+    (IsAbove old.project.room (length line) ⊎ (old.has_spare ≡ false))
     (λ g. IsFullFor old.project g line)
 
--- How a command of a script ended. It was decided behind those that wait; or it was put by itself,
--- behind what waited; or what was put is lost (30): what waited, or the command with others behind
--- it.
+-- How a command of a script ended. It was decided behind those that wait; or it can't wait: it was put
+-- by itself, behind what waited, or that was lost (30). Or it was lost with others behind it (30).
 abbrev pub ChangesProject : {D : Type 0} → Ghosts D → Drawing D → List ℕ → Result ℕ ℕ → Drawing D
     → Type 0
 ChangesProject facts old line outcome new =
     Stages old line outcome new
-    ⊎ ((CannotWait old line × IsApplied facts old line outcome new)
-    ⊎ (((outcome ≡ Err 30) × Loses facts old new)
-    ⊎ ((outcome ≡ Err 30) × IsLostWith facts old line new)))
+    ⊎ ((CannotWait old line × (IsApplied facts old line outcome new
+    ⊎ ((outcome ≡ Err 30) × Loses facts old new)))
+    ⊎ ((outcome ≡ Err 30) × IsLostWith facts old line new))
 
 -- ---- A line
 
@@ -161,6 +157,7 @@ pub record BeginsLine {D : Type 0} (facts : Ghosts D) (old : Drawing D) (alone :
   pub is : new ≡ record {
     project = mid.project;
     group = mid.group;
+    has_spare = mid.has_spare;
     is_alone = alone;
     holds_earlier = is_some mid.group;
     has_lost = false;

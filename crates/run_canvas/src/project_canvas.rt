@@ -1,10 +1,13 @@
 //! A project file, onto which a script is drawn. Its commands wait in a group, and go to the disk together.
-ghost use Rattle.std.specs.Prelude.{◌≡◌, ◌⊎◌, ℕ, List, None, Some, Ok, Err, true, false, Result, MatchOption, length, map, vec_items};
+ghost use Rattle.std.specs.Prelude.{◌≡◌, ◌⊎◌, ℕ, List, None, Some, Ok, Err, true, false, Result, IfSome, MatchOption, length};
 ghost use Rattle.store_journal.specs.State.{IsAbove};
 ghost use Rattle.store_project.specs.Groups.{IsFullFor, IsGroupFor};
 ghost use Rattle.run_edit.specs.Editing.{outcome_in};
+ghost use Rattle.run_edit.specs.Groups.{IsEmptyFor};
 ghost use Rattle.store_project.specs.declared.error.ProjectError.{ProjectError};
 ghost use Rattle.run_canvas.specs.Canvases.{is_query_line};
+
+mod room;
 
 use crate::asking::{is_query_line, tell_of};
 use crate::canvas::Canvas;
@@ -21,11 +24,12 @@ const MOST_STAGED: usize = 65_536;
 
 /// A project onto which a script is drawn. Accepted commands wait in a group, which goes to the disk at once: before
 /// the answer to a query is written, where the next line is begun behind 64 KB of commands, where the journal has no
-/// room for the next command or for all commands of the next shape, and at the script's end. A command is refused (31)
-/// if there is no memory to let it wait.
+/// room for the next command or for all commands of the next shape, and at the script's end. A command that finds no
+/// memory for a group is put by itself; a shape whose commands find none is refused (31).
 pub struct ProjectCanvas<D: Disk> {
     project: Project<D>,
     group: Option<ProjectGroup>,
+    spare: Option<ProjectGroup>,
     staged: usize,
     is_alone: bool,
     holds_earlier: bool,
@@ -53,10 +57,24 @@ fn outcome_in(answer: Result<u32, ProjectError>) -> Result<u32, u16>
     }
 }
 
+// An empty group, if there is memory for one: the one that is kept, or else a new one.
+fn empty_group<D: Disk>(project: &Project<D>, spare: Option<ProjectGroup>) -> Option<ProjectGroup>
+    requires { IfSome spare (IsEmptyFor project.now) }
+    ensures begun { IfSome result (IsEmptyFor project.now) }
+    ensures none { result ≡ None → spare ≡ None }
+{
+    match spare {
+        Some(group) => Some(group),
+        None => match project.begin_group() {
+            Ok(group) => Some(group),
+            Err(_) => None,
+        },
+    }
+}
+
 impl<D: Disk> ProjectCanvas<D> {
     ghost use Rattle.store_project.specs.Calls.{Applies};
     ghost use Rattle.run_canvas.specs.Canvases.{NothingWaits, project_canvas};
-    ghost use Rattle.run_canvas.specs.Rooms.{LacksRoomFor, TurnsFor, waiting_len};
     ghost use Rattle.run_canvas.specs.Waiting.{CannotWait, IsApplied, IsUnchanged, Loses, Settles, Stages, first_drawing};
 
     /// A project onto which nothing is drawn yet.
@@ -67,6 +85,7 @@ impl<D: Disk> ProjectCanvas<D> {
         ProjectCanvas {
             project,
             group: None,
+            spare: None,
             staged: 0,
             is_alone: false,
             holds_earlier: false,
@@ -81,6 +100,7 @@ impl<D: Disk> ProjectCanvas<D> {
         let ProjectCanvas {
             project: owned,
             group: _group,
+            spare: _spare,
             staged: _,
             is_alone: _,
             holds_earlier: _,
@@ -112,17 +132,18 @@ impl<D: Disk> ProjectCanvas<D> {
         }
     }
 
-    // Decides a line in a new group, if the journal has room for it. Where no group can be begun, the line is refused.
+    // Decides a line in an empty group, if there is memory for one and the journal has room for the line.
     fn stage_first(&mut self, line: &[u8]) -> Option<Result<u32, u16>>
         requires together { self.old.is_alone ≡ false }
         requires none { self.old.group ≡ None }
-        ensures staged { MatchOption result (self.new ≡ self.old)
+        ensures staged { MatchOption result (IsUnchanged self.old self.new)
             (λ outcome. Stages self.old line.now outcome self.new) }
-        ensures full { result ≡ None → IsAbove self.old.project.room (length line.now) }
+        ensures full { result ≡ None
+            → IsAbove self.old.project.room (length line.now) ⊎ (self.old.has_spare ≡ false) }
     {
-        let mut group = match self.project.begin_group() {
-            Ok(group) => group,
-            Err(error) => return Some(Err(error.code())),
+        let mut group = match empty_group(&self.project, self.spare.take()) {
+            Some(group) => group,
+            None => return None,
         };
         match self.project.stage(&mut group, line) {
             Ok(Some(number)) => {
@@ -149,12 +170,14 @@ impl<D: Disk> ProjectCanvas<D> {
         }
     }
 
-    // Puts what waits.
+    // Puts what waits. No empty group is kept then.
     fn put(&mut self) -> bool
         ensures settled { result ≡ true → Settles D.Disk self.old self.new
             × (self.new.is_alone ≡ self.old.is_alone) × (self.new.has_lost ≡ self.old.has_lost) }
         ensures lost { result ≡ false → Loses D.Disk self.old self.new }
+        ensures spare { self.new.has_spare ≡ false }
     {
+        self.spare = None;
         let Some(group) = self.group.take() else {
             return true;
         };
@@ -178,7 +201,8 @@ impl<D: Disk> ProjectCanvas<D> {
 
     // Puts a line by itself.
     fn apply(&mut self, line: &[u8]) -> Result<u32, u16>
-        requires { self.old.group ≡ None }
+        requires none { self.old.group ≡ None }
+        requires spare { self.old.has_spare ≡ false }
         ensures applied { (answer : Result ℕ ProjectError)
             × Applies D.Disk self.old.project line.now answer self.new.project
             × (result ≡ outcome_in answer) }
@@ -196,38 +220,6 @@ impl<D: Disk> ProjectCanvas<D> {
             return Err(ProjectError::Device.code());
         }
         self.apply(line)
-    }
-
-    // How many bytes of the journal what waits takes.
-    fn waiting_len(&self) -> usize
-        ensures { result ≡ waiting_len self.now.group }
-    {
-        match &self.group {
-            Some(group) => group.records_len(),
-            None => 0,
-        }
-    }
-
-    // Whether the journal has room for these lines behind what waits.
-    fn has_room_for(&self, lines: &[Vec<u8>]) -> bool
-        ensures full { result ≡ false → LacksRoomFor self.now (map vec_items lines.now) }
-        ensures room { result ≡ true → ¬ LacksRoomFor self.now (map vec_items lines.now) }
-    {
-        self.project.has_room_for(self.waiting_len(), lines)
-    }
-
-    // Empties the journal by a checkpoint, unless it has room for these lines. Returns the code of a refusal.
-    fn turn_for(&mut self, lines: &[Vec<u8>]) -> Option<u16>
-        requires { self.old.group ≡ None }
-        ensures { TurnsFor D.Disk self.old (map vec_items lines.now) result self.new }
-    {
-        if self.has_room_for(lines) {
-            return None;
-        }
-        match self.project.checkpoint() {
-            Ok(_) => None,
-            Err(error) => Some(error.code()),
-        }
     }
 }
 
@@ -316,13 +308,13 @@ impl<D: Disk> Canvas for ProjectCanvas<D> {
     }
 
     fn make_room(&mut self, lines: &[Vec<u8>]) -> Option<u16> {
-        if self.is_alone || self.has_room_for(lines) {
+        if self.is_alone {
             return None;
         }
-        if !self.put() {
-            return Some(ProjectError::Device.code());
+        match self.clear_journal(lines) {
+            Some(code) => Some(code),
+            None => self.keep_spare(),
         }
-        self.turn_for(lines)
     }
 
     fn settle(&mut self) -> bool {

@@ -1,5 +1,5 @@
 -- A drawing over a project is a list of the project's calls.
-use Rattle.std.proofs.Common.{◌≡◌, ◌∙◌, ◌⊎◌, inl, inr, ℕ, Bool, true, false, List, [], ◌∷◌, ◌++◌, Option, Some, None, Result, Ok, Err, refl, sym, ap, subst}
+use Rattle.std.proofs.Common.{◌≡◌, ◌∙◌, ◌⊎◌, inl, inr, ℕ, Bool, false, List, [], ◌∷◌, ◌++◌, Option, Some, None, Result, Ok, Err, refl, sym, ap, subst}
 use Rattle.std.specs.Prelude.{MatchOption, is_some}
 use Rattle.store_disk.specs.Moments.{LeavesOnly}
 use Rattle.store_disk.specs.declared.disk.Disk.{Ghosts}
@@ -16,7 +16,7 @@ use Rattle.run_edit.proofs.DeedCalls.{go_parted}
 use Rattle.run_canvas.specs.Canvases.{TellsBehind, project_canvas}
 use Rattle.run_canvas.specs.LossLaws.{no_group}
 use Rattle.run_canvas.specs.PutLaws.{settled_same}
-use Rattle.run_canvas.specs.Rooms.{IsCheckpointed, MakesRoom, TurnsFor}
+use Rattle.run_canvas.specs.Rooms.{BeginsGroup, ClearsJournal, IsCheckpointed, MakesRoom, TurnsFor}
 use Rattle.run_canvas.specs.Waiting.{AreWaiting, BeginsLine, ChangesProject, Drawing, Loses, Settles, Stages, first_drawing}
 use Rattle.run_script.specs.Drawn.{IsScriptDrawn}
 use Rattle.run_script.specs.Stopped.{HoldsAtMoments, session_of}
@@ -72,15 +72,15 @@ module _ {D : Type 0} (facts : Ghosts D) (first : State D) where
 
   change : (old new : Drawing D) (line : List ℕ) (outcome : Result ℕ ℕ) → HasCalls facts first old → ChangesProject facts old line outcome new → HasCalls facts first new
   change old new line outcome had (inl staged) = stage old new line outcome had staged
-  change old new line outcome had (inr (inl (why, applied))) =
+  change old new line outcome had (inr (inl (why, inl applied))) =
       one_more applied.mid new (Apply line applied.answer) (settle old applied.mid had applied.settled) applied.applied applied.none
-  change old new line outcome had (inr (inr (inl (is, lost)))) = lose old new had lost
-  change old new line outcome had (inr (inr (inr (is, lost)))) =
+  change old new line outcome had (inr (inl (why, inr (is, lost)))) = lose old new had lost
+  change old new line outcome had (inr (inr (is, lost))) =
       one_more old new (Put (record { line = line; number = lost.number } ∷ lost.more) (Err Device)) had lost.put lost.none
 
   -- a line begins, or a query is told
   begin_at : (mid : Drawing D) (b : Bool) → HasCalls facts first mid
-      → HasCalls facts first (record { project = mid.project; group = mid.group; is_alone = b; holds_earlier = is_some mid.group; has_lost = false })
+      → HasCalls facts first (record { project = mid.project; group = mid.group; has_spare = mid.has_spare; is_alone = b; holds_earlier = is_some mid.group; has_lost = false })
   begin_at mid b had = record { calls = had.calls; made = had.made; staged = had.staged; waits = had.waits }
 
   settle_if : (old mid : Drawing D) → HasCalls facts first old → (mid ≡ old) ⊎ Settles facts old mid → HasCalls facts first mid
@@ -104,11 +104,26 @@ module _ {D : Type 0} (facts : Ghosts D) (first : State D) where
   turns old new lines None had none (inr (lacks, (n, turned))) = turn old new (Ok n) had none turned
   turns old new lines (Some code) had none (lacks, (e, is, turned)) = turn old new (Err e) had none turned
 
+  same_calls : (old new : Drawing D) → HasCalls facts first old → new ≡ old → HasCalls facts first new
+  same_calls old new had same = subst (λ (d : Drawing D). HasCalls facts first d) (sym same) had
+
+  clear : (old new : Drawing D) (lines : List (List ℕ)) (refusal : Option ℕ) → HasCalls facts first old → ClearsJournal facts old lines refusal new → HasCalls facts first new
+  clear old new lines None had (inl (room, same)) = same_calls old new had same
+  clear old new lines None had (inr (mid, put, turned)) = turns mid new lines None (settle old mid had put.settled) put.settled.none turned
+  clear old new lines (Some code) had (inl (is, lacks, gone)) = lose old new had gone
+  clear old new lines (Some code) had (inr (mid, put, turned)) = turns mid new lines (Some code) (settle old mid had put.settled) put.settled.none turned
+
+  keep_group : (old new : Drawing D) (refusal : Option ℕ) → HasCalls facts first old → BeginsGroup old refusal new → HasCalls facts first new
+  keep_group old new None had (inl (has, same)) = same_calls old new had same
+  keep_group old new None had (inr (none, is)) =
+      no_more old new [] had (ap (λ (d : Drawing D). d.project) is) (no_group facts new (ap (λ (d : Drawing D). d.group) is ∙ none))
+  keep_group old new (Some code) had (none, spare, same, why) = same_calls old new had same
+
   room : (old new : Drawing D) (lines : List (List ℕ)) (refusal : Option ℕ) → HasCalls facts first old → MakesRoom facts old lines refusal new → HasCalls facts first new
-  room old new lines None had (inl (why, same)) = subst (λ (d : Drawing D). HasCalls facts first d) (sym same) had
-  room old new lines None had (inr (mid, put, turned)) = turns mid new lines None (settle old mid had put.settled) put.settled.none turned
-  room old new lines (Some code) had (inl (is, lacks, gone)) = lose old new had gone
-  room old new lines (Some code) had (inr (mid, put, turned)) = turns mid new lines (Some code) (settle old mid had put.settled) put.settled.none turned
+  room old new lines None had (inl (alone, same)) = same_calls old new had same
+  room old new lines None had (inr (together, mid, clears, begins)) = keep_group mid new None (clear old mid lines None had clears) begins
+  room old new lines (Some code) had (together, inl clears) = clear old new lines (Some code) had clears
+  room old new lines (Some code) had (together, inr (mid, clears, begins)) = keep_group mid new (Some code) (clear old mid lines None had clears) begins
 
   pub calls_kept : AreKept (project_canvas facts) (HasCalls facts first)
   calls_kept = record {

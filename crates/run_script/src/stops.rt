@@ -1,5 +1,5 @@
 //! A drawing onto a project that is stopped at any moment.
-ghost use Rattle.std.specs.Prelude.{◌≡◌, ℕ, Bool, List, Option, Result, Ok, false};
+ghost use Rattle.std.specs.Prelude.{◌≡◌, ℕ, Bool, List, Option, Result, Ok, Err, false};
 ghost use Rattle.store_project.specs.Calls.{AllMade, ProjectCall};
 ghost use Rattle.store_project.specs.Sessions.{Creates};
 ghost use Rattle.store_project.specs.States.{State};
@@ -7,7 +7,7 @@ ghost use Rattle.run_canvas.specs.Canvases.{project_canvas};
 ghost use Rattle.run_script.specs.Drawn.{IsScriptDrawn};
 ghost use Rattle.run_script.specs.Shaped.{DrawsShape};
 ghost use Rattle.run_script.specs.Stopped.{HoldsAtMoments};
-ghost use Rattle.run_script.specs.Whole.{IsDrawnWhole};
+ghost use Rattle.run_script.specs.Whole.{IsDrawnWhole, IsRefusedWhole};
 ghost use Rattle.run_canvas.specs.Waiting.{Drawing, first_drawing};
 ghost use Rattle.map_blocks.specs.declared.stop.Stop.{Stop};
 ghost use Rattle.run_canvas.specs.declared.error.ScriptError.{ScriptError};
@@ -39,10 +39,15 @@ pub fn drawings_hold_acknowledged<D: Disk>()
 
 /// The commands that a shape becomes wait together, so that they go to the disk by one call of `put`: it leaves all of
 /// them or none. Otherwise each command is put by itself, as the answers are written; or they are longer than an empty
-/// journal holds.
+/// journal holds. So a shape that is refused has left no part of it on the disk: it was refused before its first
+/// command; or those before the refused one only wait; or all were put by one call, which failed.
 pub fn shapes_wait_together<D: Disk>()
-    ensures { (old : Drawing D) (new : Drawing D) (line : List ℕ) (answer : ℕ)
+    ensures drawn { (old : Drawing D) (new : Drawing D) (line : List ℕ) (answer : ℕ)
         → old.is_alone ≡ false
         → DrawsShape (project_canvas D.Disk) line old (Ok answer) new
         → IsDrawnWhole D.Disk line old answer new }
+    ensures refused { (old : Drawing D) (new : Drawing D) (line : List ℕ) (code : ℕ)
+        → old.is_alone ≡ false
+        → DrawsShape (project_canvas D.Disk) line old (Err code) new
+        → IsRefusedWhole D.Disk line old code new }
 {}

@@ -10,9 +10,9 @@ pub returns-in-Err-clause-lost : goal.returns-in-Err-clause-lost
 returns-in-Err-clause-lost g c = λ failed.
     let inside = c.self.inside in
     let some = sym c.take.ensures.value ∙ c.in-Some.is in
-    let sound = subst (λ (o : Option GroupState). IfSome o (λ g. IsGroupFor inside.project g × (inside.project.must_reopen ≡ false))) some c.self.invariant in
+    let sound = subst (λ (o : Option GroupState). IfSome o (λ g. IsGroupFor inside.project g × (inside.project.must_reopen ≡ false))) some c.self.invariant.0 in
     let new : Drawing _ =
-    record { project = c.put.new.self; group = c.take.new.self; is_alone = inside.is_alone; holds_earlier = inside.holds_earlier; has_lost = inside.holds_earlier } in
+    record { project = c.put.new.self; group = c.take.new.self; has_spare = false; is_alone = inside.is_alone; holds_earlier = inside.holds_earlier; has_lost = inside.holds_earlier } in
     subst (λ (d : Drawing _). Loses g.D.Disk d new) c.self.view_is
     (put_lost g.D.Disk (drawing_of inside) new c.in-Some.group c.in-Err.field-0 some sound c.in-Err.ensures.ends c.in-Err.ensures.any_moment c.in-Err.ensures.kept
     c.in-Err.ensures.cap c.take.ensures.after refl)
