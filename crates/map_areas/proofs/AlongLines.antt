@@ -39,11 +39,11 @@ ends_apart a b p q h e =
 pub has_length : (l : PlacedLine) (p q : Vertex) → far l p <ℤ far l q → pos 0 <ℤ far l l.to
 has_length l p q h = length_positive l.from l.to (ends_apart l.from l.to p q h)
 
-straight : (l : PlacedLine) (p : Vertex) → is_on l p ≡ true → turn l.from l.to p ≡ pos 0
+pub straight : (l : PlacedLine) (p : Vertex) → is_on l p ≡ true → turn l.from l.to p ≡ pos 0
 unfolding side_value_at
 straight l p h = on_line l p h
 
-stands_at : (l : PlacedLine) (p : Vertex) → is_on l p ≡ true → IsPlacedAt l.from l.to (far l l.to) (far l p) p
+pub stands_at : (l : PlacedLine) (p : Vertex) → is_on l p ≡ true → IsPlacedAt l.from l.to (far l l.to) (far l p) p
 stands_at l p h = placed_at l.from l.to p (straight l p h)
 
 -- places of a line that are as far along it are one
@@ -77,7 +77,7 @@ in_span a b x h =
     let e2 : (a -ℤ b) *ℤ (x -ℤ b) ≡ (b -ℤ a) *ℤ (b -ℤ x) = by_ring (a ∷ b ∷ x ∷ []) _ _ (search quotes depth 30 fits 20000) (search quotes depth 30 fits 20000) tt in
     (omega (arith, linear), omega (arith, linear)))
 
-spans_says : (l : PlacedLine) (p : Vertex) → is_on l p ≡ true → (spans_meet l.from.x l.to.x p.x p.x ≡ true) × (spans_meet l.from.y l.to.y p.y p.y ≡ true)
+pub spans_says : (l : PlacedLine) (p : Vertex) → is_on l p ≡ true → (spans_meet l.from.x l.to.x p.x p.x ≡ true) × (spans_meet l.from.y l.to.y p.y p.y ≡ true)
 unfolding is_on
 spans_says l p h =
     let two = and_both _ _ h in
@@ -144,7 +144,7 @@ module _ (l : PlacedLine) (p q v : Vertex) (op : is_on l p ≡ true) (oq : is_on
 -- ---- where a line crosses an edge
 
 -- the value of a place of one line by another line grows with how far it is along the first one
-grows : (a b c e p : Vertex) (n i : ℤ) → IsPlacedAt a b n i p
+pub grows : (a b c e p : Vertex) (n i : ℤ) → IsPlacedAt a b n i p
     → n *ℤ turn c e p ≡ (turn c e b -ℤ turn c e a) *ℤ i +ℤ n *ℤ turn c e a
 grows a b c e p n i at =
     let e1 : n *ℤ turn c e p ≡ (e.y -ℤ c.y) *ℤ (n *ℤ (p.x -ℤ a.x)) -ℤ (e.x -ℤ c.x) *ℤ (n *ℤ (p.y -ℤ a.y)) +ℤ n *ℤ turn c e a =
@@ -180,19 +180,19 @@ sign_above n k t s z n0 k0 e zero h =
     factor_below n (pos 0) t (omega (arith, linear)) (omega (arith, linear))
 
 -- values that grow, or fall, from one place to another
-rises : (n d z i j u v : ℤ) → pos 0 <ℤ n → pos 0 <ℤ d → n *ℤ u ≡ d *ℤ i +ℤ z → n *ℤ v ≡ d *ℤ j +ℤ z → i <ℤ j → u <ℤ v
+pub rises : (n d z i j u v : ℤ) → pos 0 <ℤ n → pos 0 <ℤ d → n *ℤ u ≡ d *ℤ i +ℤ z → n *ℤ v ≡ d *ℤ j +ℤ z → i <ℤ j → u <ℤ v
 rises n d z i j u v n0 d0 e f h =
     let p = times_below d i j d0 h in
     factor_below n u v (omega (arith, linear)) (omega (arith, linear))
 
-falls : (n d z i j u v : ℤ) → pos 0 <ℤ n → d <ℤ pos 0 → n *ℤ u ≡ d *ℤ i +ℤ z → n *ℤ v ≡ d *ℤ j +ℤ z → i <ℤ j → v <ℤ u
+pub falls : (n d z i j u v : ℤ) → pos 0 <ℤ n → d <ℤ pos 0 → n *ℤ u ≡ d *ℤ i +ℤ z → n *ℤ v ≡ d *ℤ j +ℤ z → i <ℤ j → v <ℤ u
 falls n d z i j u v n0 d0 e f h =
     let e1 : (pos 0 -ℤ d) *ℤ i ≡ pos 0 -ℤ d *ℤ i = by_ring (d ∷ i ∷ []) _ _ (search quotes depth 30 fits 20000) (search quotes depth 30 fits 20000) tt in
     let e2 : (pos 0 -ℤ d) *ℤ j ≡ pos 0 -ℤ d *ℤ j = by_ring (d ∷ j ∷ []) _ _ (search quotes depth 30 fits 20000) (search quotes depth 30 fits 20000) tt in
     let p = times_below (pos 0 -ℤ d) i j (omega (arith, linear)) h in
     factor_below n v u (omega (arith, linear)) (omega (arith, linear))
 
-sides_says : (l k : PlacedLine) → has_on_both_sides l k ≡ true
+pub sides_says : (l k : PlacedLine) → has_on_both_sides l k ≡ true
     → ((turn l.from l.to k.from <ℤ pos 0) × (pos 0 <ℤ turn l.from l.to k.to)) ⊎ ((pos 0 <ℤ turn l.from l.to k.from) × (turn l.from l.to k.to <ℤ pos 0))
 unfolding has_on_both_sides side_value_at
 sides_says l k h =

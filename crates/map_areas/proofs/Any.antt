@@ -18,7 +18,7 @@ any_none f g xs too h = none (list_any f xs) (any_too f g xs too)
     none true k = sym (k refl) ∙ h
     none false k = refl
 
-take_then_drop : {X : Type 0} (xs : List X) (i : ℕ) → take i xs ++ drop i xs ≡ xs
+pub take_then_drop : {X : Type 0} (xs : List X) (i : ℕ) → take i xs ++ drop i xs ≡ xs
 take_then_drop xs zero = refl
 take_then_drop [] (suc i) = refl
 take_then_drop (x ∷ xs) (suc i) = ap (λ ys. x ∷ ys) (take_then_drop xs i)

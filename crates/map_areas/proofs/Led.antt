@@ -1,5 +1,5 @@
 -- Along edges that lead through one sector alone no part of the border has another one inside.
-use Rattle.std.proofs.Common.{◌≡◌, ℕ, All, true, false, ◌&&◌, ◌||◌, not, List, [], ◌∷◌, Option, Some, None, refl, sym, ap, ◌∙◌, subst, ⊎_elim, arith}
+use Rattle.std.proofs.Common.{◌≡◌, ℕ, ◌<◌, All, length, true, false, ◌&&◌, ◌||◌, not, List, [], ◌∷◌, Option, Some, None, refl, sym, ap, ◌∙◌, subst, ⊎_elim, arith}
 use Rattle.std.proofs.lemmas.Bool.{false≢true}
 use Rattle.std.proofs.lemmas.Int.{by_lt_z}
 use Rattle.std.proofs.lemmas.List.Elements.{All-head, All-tail}
@@ -7,8 +7,8 @@ use Rattle.std.specs.List.{list_any}
 use Rattle.std.specs.Prelude.{ℤ, pos, ◌<ℤ◌, ◌≤ℤ◌}
 use Rattle.lump_records.proofs.Signs.{linear}
 use Rattle.lump_records.specs.declared.records.Vertex.{Vertex}
-use Rattle.map_plane.proofs.Means.{at_is}
-use Rattle.map_plane.proofs.Tests.{and_both, not_says, or_either}
+use Rattle.map_plane.proofs.Means.{at_is, is_at-same}
+use Rattle.map_plane.proofs.Tests.{and_both, both, not_says, or_either, or_left, or_right}
 use Rattle.map_plane.specs.Meeting.{ends_at, is_at, is_on}
 use Rattle.map_plane.specs.Places.{placed_lines}
 use Rattle.map_plane.specs.declared.places.PlacedLine.{PlacedLine}
@@ -19,7 +19,7 @@ use Rattle.map_areas.proofs.Standing.{both_and, same_sector}
 use Rattle.map_areas.specs.Bordered.{is_led, is_led_to}
 use Rattle.map_areas.specs.Cuts.{IsLed, uncut}
 use Rattle.map_areas.specs.Refusals.{are_several, is_border_part}
-use Rattle.map_areas.specs.Stops.{comes_first, crosses_at, is_between_stops, is_stop, leads_along}
+use Rattle.map_areas.specs.Stops.{comes_first, crosses_at, is_between_stops, is_met, is_stop, leads_along}
 use Rattle.map_areas.specs.Ways.{crosses_way, is_between, is_clear, is_same, runs_along, sector_on_right, way}
 use Rattle.map_areas.specs.declared.border.CutEdge.{CutEdge}
 use Rattle.map_areas.specs.declared.error.Part.{Part}
@@ -129,7 +129,7 @@ module _ (m : Tables) (round : Option ℕ) (e : PlacedLine) (p q : Vertex) (op :
 
 -- ---- all edges
 
-same_is : (o r : Option ℕ) → is_same o r ≡ true → o ≡ r
+pub same_is : (o r : Option ℕ) → is_same o r ≡ true → o ≡ r
 same_is None None h = refl
 same_is None (Some k) h = cc
 same_is (Some s) r h = sym (same_sector s r h)
@@ -175,3 +175,58 @@ not_several m round cs es edges all first second =
     let f = same_is round first.sector (led_one m round cs first all (ap (λ (ls : List PlacedLine). is_border_part m ls first) edges ∙ a)) in
     let g = led_one m round cs second all (ap (λ (ls : List PlacedLine). is_border_part m ls second) edges ∙ b) in
     ap not (subst (λ (z : Option ℕ). is_same z second.sector ≡ true) f g))
+
+-- ---- a part of the border
+
+led_says : (m : Tables) (round : Option ℕ) (e : PlacedLine) (a b : Vertex) → is_led_to m round e a b ≡ true
+    → (comes_first e a b ≡ true) × (is_clear m (way a b) ≡ true) × (is_same (sector_on_right m (way a b)) round ≡ true)
+led_says m round e a b h =
+    let two = and_both (comes_first e a b && is_clear m (way a b)) (is_same (sector_on_right m (way a b)) round) h in
+    let one = and_both (comes_first e a b) (is_clear m (way a b)) two.0 in
+    (one.0, one.1, two.1)
+
+-- the part of an edge that leads from its start to the first stop
+abbrev LeadsFirst : Tables → Option ℕ → PlacedLine → Vertex → Type 0
+LeadsFirst m round e to = (is_between_stops m (way e.from to) e ≡ true) × (is_clear m (way e.from to) ≡ true) × (is_same (sector_on_right m (way e.from to)) round ≡ true)
+
+first_stop : (m : Tables) (round : Option ℕ) (e : PlacedLine) (to : Vertex) → is_on e to ≡ true → (is_stop m e to || is_at e.to to) ≡ true
+    → is_led_to m round e e.from to ≡ true → LeadsFirst m round e to
+first_stop m round e to on stop h =
+    let t = led_says m round e e.from to h in
+    let start = or_left (is_at e.from e.from) (is_met m e e.from) (is_at-same e.from e.from refl) in
+    let along = both (runs_along (way e.from to) e) (comes_first e e.from to) (both (is_on e e.from) (is_on e to) (on_from e) on) t.0 in (
+      both (leads_along (way e.from to) e && is_stop m e e.from) (is_stop m e to || is_at e.to to) (both (leads_along (way e.from to) e) (is_stop m e e.from) along start) stop,
+      t.1,
+      t.2,
+    )
+
+first_part : (m : Tables) (round : Option ℕ) (e : PlacedLine) (ps : List Vertex) → is_led m round e e.from ps ≡ true → (to : Vertex) × LeadsFirst m round e to
+first_part m round e [] h = (e.to, first_stop m round e e.to (on_to e) (or_right (is_stop m e e.to) (is_at e.to e.to) (is_at-same e.to e.to refl)) h)
+first_part m round e (p ∷ ps) h =
+    let two = and_both (is_stop m e p && is_led_to m round e e.from p) (is_led m round e p ps) h in
+    let one = and_both (is_stop m e p) (is_led_to m round e e.from p) two.0 in
+    let first = first_says e e.from p (led_says m round e e.from p one.1).0 in
+    (p, first_stop m round e p (stop_on m e e.from p (on_from e) first one.0) (or_left (is_stop m e p) (is_at e.to p) one.0) one.1)
+
+-- there is one, with what is inside
+pub has_part : (m : Tables) (round : Option ℕ) (cs : List CutEdge) (es : List PlacedLine) → uncut cs ≡ es → 0 < length cs → All (IsLed m round) cs
+    → (p : Part) × (is_border_part m es p ≡ true) × (p.sector ≡ round)
+has_part m round [] es edges some all = absurd (omega arith)
+has_part m round (c ∷ cs) es edges some all =
+    let e = c.edge in
+    let f = first_part m round e c.cuts.items (All-head (IsLed m round) c cs all) in
+    let leads = f.1 in
+    let w = way e.from f.0 in
+    let there = or_left (is_between_stops m w e) (list_any (is_between_stops m w) (uncut cs)) leads.0 in
+    let part : Part = record { from = e.from; to = f.0; sector = round } in (
+      part,
+      ap (λ (ls : List PlacedLine). is_border_part m ls part) (sym edges)
+          ∙ both (list_any (is_between_stops m w) (e ∷ uncut cs) && is_clear m w) (is_same (sector_on_right m w) round) (both (list_any (is_between_stops m w) (e ∷ uncut cs)) (is_clear m w) there leads.1) leads.2,
+      refl,
+    )
+
+-- where a part has the void inside, so has the border
+pub void_round : (m : Tables) (round : Option ℕ) (cs : List CutEdge) (es : List PlacedLine) → uncut cs ≡ es → All (IsLed m round) cs
+    → (p : Part) → is_border_part m es p ≡ true → p.sector ≡ None → round ≡ None
+void_round m round cs es edges all p h void =
+    same_is round p.sector (led_one m round cs p all (ap (λ (ls : List PlacedLine). is_border_part m ls p) edges ∙ h)) ∙ void

@@ -6,7 +6,10 @@ pub mod Others
 pub mod LeftAlone
 pub mod Whole
 pub mod Bordering
-pub mod Parts
+pub mod Further
+pub mod Placing
+pub mod Cutting
+pub mod InParts
 pub mod Refused
 pub mod Crossings
 pub mod Standing

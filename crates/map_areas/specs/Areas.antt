@@ -20,8 +20,8 @@ pub record DrawsArea (es : List PlacedLine) (old new : Tables) : Type 0 where
   pub stays : KeepsRest es round old new
   pub border : IsBordered es round (length old.sectors) old new
 
--- an area with these corners is accepted: they are a simple polygon, no reason refuses it for its border, and the
--- commands, which are accepted in turn, draw it
+-- an area with these corners is accepted: they are a simple polygon, no reason refuses it for its border or
+-- for what is inside, and the commands, which are accepted in turn, draw it
 pub record AcceptsArea (m : Tables) (cs : List Vertex) (commands : List Command) : Type 0 where
   pub polygon : bad_corner (outline_edges cs) ≡ None
   pub becomes : MayBecome m (edges_round true cs)

@@ -13,7 +13,7 @@ use Rattle.map_commands.specs.declared.command.Command.{Command}
 use Rattle.map_commands.specs.declared.command.Command.TheVariants as command
 use Rattle.map_areas.specs.Stays.{Draws}
 use Rattle.map_areas.specs.declared.error.AreaError.{AreaError}
-use Rattle.map_areas.specs.declared.error.AreaError.TheVariants.{OutOfMemory, OutOfRange, Refused}
+use Rattle.map_areas.specs.declared.error.AreaError.TheVariants.{NotDrawn, OutOfMemory, Refused}
 
 -- the map accepts the command, which draws, and leaves another map
 pub record TakesCommand (old : Tables) (c : Command) (new : Tables) : Type 0 where
@@ -57,10 +57,10 @@ pub record RefusesInTurn (es : List PlacedLine) (old : Tables) (code : ℕ) : Ty
   pub draws : DrawsOn es next
   pub refused : least (faults new next) ≡ Some code
 
--- the map refuses the command so, or it is out of range, or memory lacks
+-- the map refuses the command so, or it doesn't pass its trial, or memory lacks
 abbrev pub IsFaultOf : Tables → Command → AreaError → Type 0
 IsFaultOf m c (Refused e) = least (faults m c) ≡ Some (code_of e)
-IsFaultOf m c OutOfRange = Unit {0}
+IsFaultOf m c NotDrawn = Unit {0}
 IsFaultOf m c OutOfMemory = Unit {0}
 IsFaultOf m c e = ⊥
 
@@ -72,6 +72,6 @@ RefusesOnEdges m es c e = IsFaultOf m c e
 -- the first of commands, drawn in turn on the edges, that the map doesn't take is refused so
 abbrev pub RefusesDrawing : Tables → List PlacedLine → AreaError → Type 0
 RefusesDrawing m es (Refused e) = RefusesInTurn es m (code_of e)
-RefusesDrawing m es OutOfRange = Unit {0}
+RefusesDrawing m es NotDrawn = Unit {0}
 RefusesDrawing m es OutOfMemory = Unit {0}
 RefusesDrawing m es e = ⊥

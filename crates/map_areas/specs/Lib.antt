@@ -9,5 +9,7 @@ pub mod Bordered
 pub mod Areas
 pub mod Refusals
 pub mod Stops
+pub mod Inside
 pub mod Cuts
 pub mod Order
+pub mod InRange

@@ -1,19 +1,19 @@
 -- What a refusal of a shape says of the map.
-use Rattle.std.specs.Prelude.{◌≡◌, ℕ, Bool, true, false, ◌&&◌, ◌||◌, not, All, List, Some, is_none, slice_get}
+use Rattle.std.specs.Prelude.{◌≡◌, ℕ, Bool, true, false, ◌&&◌, ◌||◌, not, List, None, Some, is_none, slice_get}
 use Rattle.std.specs.List.{list_any}
 use Rattle.std.specs.Option.{option_map_or}
 use Rattle.lump_records.specs.declared.records.Vertex.{Vertex}
-use Rattle.map_plane.specs.Meeting.{ends_at, has_on_both_sides, is_at, is_on}
+use Rattle.map_plane.specs.Meeting.{has_on_both_sides, is_at, is_on}
 use Rattle.map_plane.specs.Nearest.{sector_of_place}
 use Rattle.map_plane.specs.Places.{placed_lines}
 use Rattle.map_plane.specs.Polygon.{is_inside}
 use Rattle.map_plane.specs.declared.places.PlacedLine.{PlacedLine}
 use Rattle.map_tables.specs.Tables.{Tables}
 use Rattle.map_areas.specs.declared.error.AreaError.{AreaError}
-use Rattle.map_areas.specs.declared.error.AreaError.TheVariants.{Crossing, NotAPolygon, NotEmpty, OutOfMemory, OutOfRange, OverVertex, Refused, SeveralSectors}
+use Rattle.map_areas.specs.declared.error.AreaError.TheVariants.{Crossing, NotAPolygon, NotDrawn, NotEmpty, OutOfMemory, OverVertex, Refused, SeveralSectors}
 use Rattle.map_areas.specs.declared.error.Part.{Part}
-use Rattle.map_areas.specs.Apart.{place_sum}
 use Rattle.map_areas.specs.Drawn.{RefusesInTurn}
+use Rattle.map_areas.specs.Inside.{IsPartInside}
 use Rattle.map_areas.specs.Stops.{is_between_stops}
 use Rattle.map_areas.specs.Ways.{crosses_way, is_clear, is_same, sector_on_right, way}
 use Rattle.map_tables.specs.Errors.{code_of}
@@ -69,28 +69,6 @@ IsOfOutline (NotAPolygon corner) = Unit {0}
 IsOfOutline OutOfMemory = Unit {0}
 IsOfOutline e = ⊥
 
--- a place is an end of a line, or lies on it
-abbrev pub is_of_line : PlacedLine → Vertex → Bool
-is_of_line l p = ends_at l p || is_on l p
-
--- places are all of a line
-abbrev pub AreOfLine : PlacedLine → List Vertex → Type 0
-AreOfLine l ps = All (λ p. is_of_line l p ≡ true) ps
-
--- the middle of two places is inside, and on no edge, by the edges at twice the size
-abbrev pub holds_middle : List PlacedLine → Vertex → Vertex → Bool
-holds_middle ds a b = is_inside ds (place_sum a b)
-    && not (list_any (λ e. is_on e (place_sum a b)) ds)
-
--- the middle of two places of a line is inside
-abbrev pub HasPartInside : List PlacedLine → PlacedLine → Type 0
-HasPartInside ds l = (a : Vertex) × (b : Vertex) × (is_of_line l a ≡ true)
-    × (is_of_line l b ≡ true) × (holds_middle ds a b ≡ true)
-
--- the line with the number is there, and a part of it lies inside
-abbrev pub IsPartInside : List PlacedLine → List PlacedLine → ℕ → Type 0
-IsPartInside ls ds n = (l : PlacedLine) × (slice_get ls n ≡ Some l) × HasPartInside ds l
-
 -- no whole place lies on both lines
 abbrev pub HaveNoPlace : PlacedLine → PlacedLine → Type 0
 HaveNoPlace l k = (p : Vertex) → (is_on l p && is_on k p) ≡ false
@@ -103,13 +81,13 @@ CrossesBetween ls e n = (l : PlacedLine) × (slice_get ls n ≡ Some l) × (cros
 -- the crossing of an edge and the line with the number is refused with 26 only if no whole place lies on both
 abbrev pub IsCrossingRefusal : PlacedLine → PlacedLine → ℕ → AreaError → Type 0
 IsCrossingRefusal e l n (Crossing line near) = (line ≡ n) × HaveNoPlace e l
-IsCrossingRefusal e l n OutOfRange = Unit {0}
+IsCrossingRefusal e l n NotDrawn = Unit {0}
 IsCrossingRefusal e l n _ = ⊥
 
 -- an edge is refused with 26 only if it crosses the line so
 abbrev pub IsEdgeRefusal : List PlacedLine → PlacedLine → AreaError → Type 0
 IsEdgeRefusal ls e (Crossing line near) = CrossesBetween ls e line
-IsEdgeRefusal ls e OutOfRange = Unit {0}
+IsEdgeRefusal ls e NotDrawn = Unit {0}
 IsEdgeRefusal ls e OutOfMemory = Unit {0}
 IsEdgeRefusal ls e _ = ⊥
 
@@ -120,7 +98,7 @@ OneCrosses ls es n = (k : ℕ) × (e : PlacedLine) × (slice_get es k ≡ Some e
 -- the same of the edges of an outline
 abbrev pub AreEdgesRefused : List PlacedLine → List PlacedLine → AreaError → Type 0
 AreEdgesRefused ls es (Crossing line near) = OneCrosses ls es line
-AreEdgesRefused ls es OutOfRange = Unit {0}
+AreEdgesRefused ls es NotDrawn = Unit {0}
 AreEdgesRefused ls es OutOfMemory = Unit {0}
 AreEdgesRefused ls es _ = ⊥
 
@@ -131,7 +109,7 @@ CrossWhole ls es = (n : ℕ) → OneCrosses ls es n → ⊥
 -- the refusal is that of a border along which there are several sectors
 abbrev pub IsOfSectors : AreaError → Type 0
 IsOfSectors (SeveralSectors first second) = Unit {0}
-IsOfSectors OutOfRange = Unit {0}
+IsOfSectors NotDrawn = Unit {0}
 IsOfSectors e = ⊥
 
 -- a part of the border leads along an edge from stop to stop, meets nothing between, and has on its right, which is
@@ -145,13 +123,24 @@ abbrev pub are_several : Tables → List PlacedLine → Part → Part → Bool
 are_several m es first second = is_border_part m es first && is_border_part m es second
     && not (is_same first.sector second.sector)
 
+-- the void is along a part of the border, and a part of the line with the number lies inside
+abbrev pub LiesInVoid : Tables → List PlacedLine → List PlacedLine → ℕ → Type 0
+LiesInVoid m es ds n = (p : Part) × (is_border_part m es p ≡ true) × (p.sector ≡ None)
+    × IsPartInside m es ds n
+
 -- an area is refused with 26 only if an edge crosses a line at no whole place, with 27 only if two parts of its border
--- have different sectors inside, with 28 only if a part of a line lies inside, by the edges at twice the size, and as a
--- command is only if it is drawn by commands that aren't all taken
+-- have different sectors inside, with 28 only if a part of a line lies inside in the void, by the edges at twice the
+-- size, and as a command is only if it is drawn by commands that aren't all taken
 abbrev pub IsAreaRefusal : Tables → List PlacedLine → List PlacedLine → AreaError → Type 0
 IsAreaRefusal m es ds (Crossing line near) = OneCrosses (placed_lines m) es line
 IsAreaRefusal m es ds (SeveralSectors first second) = are_several m es first second ≡ true
-IsAreaRefusal m es ds (NotEmpty line) = IsPartInside (placed_lines m) ds line
+IsAreaRefusal m es ds (NotEmpty line) = LiesInVoid m es ds line
 IsAreaRefusal m es ds (OverVertex vertex) = ⊥
 IsAreaRefusal m es ds (Refused e) = RefusesInTurn es m (code_of e)
 IsAreaRefusal m es ds e = Unit {0}
+
+-- lines in the void are refused with 28 only if a part of the one that is told lies inside
+abbrev pub IsInsideRefusal : Tables → List PlacedLine → List PlacedLine → AreaError → Type 0
+IsInsideRefusal m es ds (NotEmpty line) = IsPartInside m es ds line
+IsInsideRefusal m es ds OutOfMemory = Unit {0}
+IsInsideRefusal m es ds e = ⊥

@@ -21,10 +21,14 @@ comes_first l a b = int_lt (far_along l a) (far_along l b)
 abbrev pub crosses_at : PlacedLine → Vertex → PlacedLine → Bool
 crosses_at e p l = crosses_way e l && is_on l p
 
--- an edge stops at a place: it begins there, or, between its ends, a vertex is there or a line crosses it there
+-- something meets an edge at a place between its ends: a vertex is there, or a line crosses it there
+abbrev pub is_met : Tables → PlacedLine → Vertex → Bool
+is_met m e p = is_between e p
+    && (list_any (is_at p) m.vertices || list_any (crosses_at e p) (placed_lines m))
+
+-- an edge stops at a place: it begins there, or something meets it there
 abbrev pub is_stop : Tables → PlacedLine → Vertex → Bool
-is_stop m e p = is_at e.from p || (is_between e p
-    && (list_any (is_at p) m.vertices || list_any (crosses_at e p) (placed_lines m)))
+is_stop m e p = is_at e.from p || is_met m e p
 
 -- a way leads along an edge, and in its direction
 abbrev pub leads_along : PlacedLine → PlacedLine → Bool

@@ -3,7 +3,7 @@ ghost use Rattle.std.specs.Prelude.{◌≡◌, ℕ, IfErr, IsTrue, OnOk, slice_g
 ghost use Rattle.std.specs.List.{list_any};
 ghost use Rattle.map_areas.specs.Apart.{KeepsAlone, KeepsRecord, meets_edge, has_middle_in, is_alone};
 ghost use Rattle.map_areas.specs.Changes.{KeepsUnchanged, KeepsTouched};
-ghost use Rattle.map_areas.specs.Errors.{IsOfRange};
+ghost use Rattle.map_areas.specs.Errors.{IsOfTrial};
 ghost use Rattle.map_plane.specs.Meeting.{ends_at, is_on};
 ghost use Rattle.map_plane.specs.Places.{placed};
 ghost use Rattle.map_tables.specs.WellFormed.{WellFormed};
@@ -152,10 +152,10 @@ pub(crate) fn find_alone(
     requires others { KeepsUnchanged changing.now map.now.tables new.now.tables }
     ensures kept { OnOk result ((n : ℕ) → KeepsAlone border.now.edges.items
         border.now.doubled.items map.now.tables new.now.tables n) }
-    ensures refused { IfErr result IsOfRange }
+    ensures refused { IfErr result IsOfTrial }
 {
     if keeps_side(map, new, NO_SIDE) && keeps_touched(map, new, border, changing) {
         return Ok(());
     }
-    Err(AreaError::OutOfRange)
+    Err(AreaError::NotDrawn)
 }

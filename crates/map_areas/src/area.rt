@@ -1,15 +1,21 @@
 //! Areas: polygons that become sectors.
 ghost use Rattle.std.specs.Prelude.{◌≡◌, ℕ, All, IfErr, IfOk, OnOk};
+ghost use Rattle.std.specs.List.{list_any};
+ghost use Rattle.lump_records.specs.declared.records.Vertex.{Vertex};
 ghost use Rattle.map_areas.specs.Apart.{KeepsAlone, doubled};
 ghost use Rattle.map_areas.specs.Cuts.{IsLed, IsWalled, uncut};
 ghost use Rattle.map_areas.specs.Changes.{KeepsUnchanged};
 ghost use Rattle.map_areas.specs.Drawn.{AreTaken, drawn};
-ghost use Rattle.map_areas.specs.Errors.{IsOfMap, IsOfRange};
+ghost use Rattle.map_areas.specs.Errors.{IsOfMap, IsOfTrial};
 ghost use Rattle.map_areas.specs.Areas.{AcceptsArea, DrawsArea, RefusesArea};
+ghost use Rattle.map_areas.specs.InRange.{IsAreaInRange, JudgesRange};
+ghost use Rattle.map_areas.specs.Inside.{is_border_stop};
 ghost use Rattle.map_areas.specs.Order.{ComesAfterSectors, ComesInOrder, IsOfRound, MayBecome};
-ghost use Rattle.map_areas.specs.Refusals.{IsAreaRefusal};
+ghost use Rattle.map_areas.specs.Refusals.{IsAreaRefusal, LiesInVoid};
 ghost use Rattle.map_areas.specs.Stays.{BecomesLine, BecomesSide, EachBecomes};
+ghost use Rattle.map_areas.specs.declared.error.AreaError.TheVariants.{OutOfRange};
 ghost use Rattle.map_commands.specs.Step.{InRange};
+ghost use Rattle.map_plane.specs.Meeting.{is_at};
 ghost use Rattle.map_plane.specs.Places.{placed_lines};
 ghost use Rattle.map_tables.specs.WellFormed.{WellFormed};
 
@@ -19,9 +25,10 @@ use crate::bordered::find_bordered;
 use crate::changes::changing_of;
 use crate::drawing::{Drawing, Paint, drawing_of};
 use crate::error::AreaError;
-use crate::inside::find_none_inside;
+use crate::inside::find_empty;
 use crate::kept::find_kept;
 use crate::polygon::polygon;
+use crate::ranges::is_area_in_range;
 use crate::round::sector_round;
 use crate::trial::try_commands;
 use crate::ways::{Ground, ground_of};
@@ -51,17 +58,19 @@ fn find_round(
     requires lines { ground.now.lines.items ≡ placed_lines map.now.tables }
     requires doubled { ground.now.doubled.items ≡ doubled (placed_lines map.now.tables) }
     requires edges { uncut border.now.cut_edges.items ≡ border.now.edges.items }
+    requires stops { (p : Vertex) → list_any (is_at p) border.now.stops.items
+        ≡ is_border_stop map.now.tables border.now.edges.items p }
     ensures led { IfOk result (λ round. All (IsLed map.now.tables round)
         border.now.cut_edges.items) }
+    ensures empty { OnOk result ((n : ℕ) → LiesInVoid map.now.tables border.now.edges.items
+        border.now.doubled.items n → ⊥) }
     ensures refused { IfErr result IsOfRound }
     ensures order { IfErr result (ComesAfterSectors map.now.tables border.now.edges.items) }
     ensures reason { IfErr result (IsAreaRefusal map.now.tables border.now.edges.items
         border.now.doubled.items) }
 {
     let round = sector_round(map, ground, border)?;
-    if round.is_none() {
-        find_none_inside(alloc, map, &ground.lines, border)?;
-    }
+    find_empty(alloc, map, &ground.lines, border, round)?;
     Ok(round)
 }
 
@@ -106,7 +115,7 @@ fn look_at(
         border.now.doubled.items map.now.tables new.now.tables n) }
     ensures walled { OnOk result (All (IsWalled map.now.tables new.now.tables paint.now.sector)
         border.now.cut_edges.items) }
-    ensures refused { IfErr result IsOfRange }
+    ensures refused { IfErr result IsOfTrial }
 {
     find_kept(map, new, paint.round, paint.sector, changing)?;
     find_alone(map, new, border, changing)?;
@@ -151,14 +160,28 @@ fn commands_within(
     Ok(commands)
 }
 
+// Refuses an area of which a number or a name isn't in its range.
+fn find_in_range(area: &Area) -> Result<(), AreaError>
+    ensures range { OnOk result (IsAreaInRange area.now) }
+    ensures refused { IfErr result (λ e. (e ≡ OutOfRange) × (IsAreaInRange area.now → ⊥)) }
+{
+    if is_area_in_range(area) {
+        return Ok(());
+    }
+    Err(AreaError::OutOfRange)
+}
+
 /// The commands that draw the area into the map.
 pub fn area_commands(alloc: Global, map: &Map, area: &Area) -> Result<Vec<Command>, AreaError>
     ensures ok { IfOk result (λ commands.
         AcceptsArea map.now.tables area.now.corners.items commands.items) }
     ensures range { IfOk result (λ commands. All InRange commands.items) }
     ensures refused { IfErr result (RefusesArea map.now.tables area.now.corners.items) }
+    ensures in_range { OnOk result (IsAreaInRange area.now) }
+    ensures out_of_range { IfErr result (JudgesRange (IsAreaInRange area.now)) }
 {
     let edges = polygon(alloc, &area.corners, true)?;
+    find_in_range(area)?;
     let commands = commands_within(alloc, map, area, edges)?;
     Ok(commands)
 }

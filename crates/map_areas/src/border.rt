@@ -1,17 +1,22 @@
 //! The border of a polygon: its edges, and the places at which they are cut.
-ghost use Rattle.std.specs.Prelude.{◌≡◌, ◌≤◌, ◌&&◌, ℕ, IfErr, IfOk, OnOk, true};
+ghost use Rattle.std.specs.Prelude.{◌≡◌, ◌≤◌, ◌&&◌, ◌||◌, ℕ, All, IfErr, IfOk, OnOk, false, slice_get, true};
+ghost use Rattle.std.specs.List.{list_any};
+ghost use Rattle.std.specs.Option.{option_map_or};
+ghost use Rattle.lump_records.specs.declared.records.Vertex.{Vertex};
 ghost use Rattle.map_areas.specs.Apart.{doubled, doubled_line, place_sum};
-ghost use Rattle.map_areas.specs.Cuts.{uncut};
+ghost use Rattle.map_areas.specs.Cuts.{IsCutWhereMet, are_cuts, is_cut_at, uncut};
+ghost use Rattle.map_areas.specs.Inside.{holds_middle, is_border_stop};
 ghost use Rattle.map_areas.specs.Order.{IsOfCrossing};
-ghost use Rattle.map_areas.specs.Refusals.{AreEdgesRefused, CrossWhole, CrossesBetween, IsAreaRefusal, IsCrossingRefusal, IsEdgeRefusal, holds_middle};
-ghost use Rattle.map_areas.specs.Ways.{crosses_way};
-ghost use Rattle.map_plane.specs.Meeting.{is_on};
+ghost use Rattle.map_areas.specs.Refusals.{AreEdgesRefused, CrossWhole, CrossesBetween, IsAreaRefusal, IsCrossingRefusal, IsEdgeRefusal};
+ghost use Rattle.map_areas.specs.Stops.{crosses_at};
+ghost use Rattle.map_areas.specs.Ways.{crosses_way, is_between};
+ghost use Rattle.map_plane.specs.Meeting.{is_at, is_on};
 ghost use Rattle.map_plane.specs.Places.{placed_lines};
 
 use crate::crossing::{may_meet, near_crossing};
-use crate::cuts::put_along;
+use crate::cuts::{cuts_of, put_along};
 use crate::error::AreaError;
-use crate::ways::{Ground, crosses_way, is_between};
+use crate::ways::{Ground, crosses_way, line_at};
 use lump_records::Vertex;
 use map_plane::{PlacedLine, is_inside, is_on, is_on_any};
 use map_tables::{Kind, Map};
@@ -80,23 +85,9 @@ fn crossing(edge: &PlacedLine, line: &PlacedLine, number: u16) -> Result<Vertex,
         return Ok(near);
     }
     if may_meet(edge, line) {
-        return Err(AreaError::OutOfRange);
+        return Err(AreaError::NotDrawn);
     }
     Err(AreaError::Crossing { line: number, near })
-}
-
-// Adds the vertices that lie between the ends of the edge.
-fn put_vertices(
-    cuts: &mut Vec<Vertex>,
-    vertices: &[Vertex],
-    edge: &PlacedLine,
-) -> Result<(), AllocError> {
-    for vertex in vertices {
-        if is_between(edge, *vertex) {
-            put_along(cuts, edge, *vertex)?;
-        }
-    }
-    Ok(())
 }
 
 // Adds the place at which the edge crosses the line with the number, if it does.
@@ -107,16 +98,21 @@ fn put_crossing(
     number: u32,
 ) -> Result<(), AreaError>
     requires { number ≤ 65535 }
+    ensures those { OnOk result ((p : Vertex) → list_any (is_at p) stops.new.items
+        ≡ (list_any (is_at p) stops.old.items || (is_between edge.now p
+        && option_map_or (crosses_at edge.now p) (slice_get lines.now number) false))) }
+    ensures order { OnOk result (are_cuts edge.now edge.now.from stops.old.items ≡ true
+        → are_cuts edge.now edge.now.from stops.new.items ≡ true) }
     ensures whole { OnOk result (CrossesBetween lines.now edge.now number → ⊥) }
     ensures refused { IfErr result (IsEdgeRefusal lines.now edge.now) }
 {
-    let Some(line) = lines.get(number as usize) else {
+    let Some(line) = line_at(lines, number) else {
         return Ok(());
     };
-    if !crosses_way(edge, line) {
+    if !crosses_way(edge, &line) {
         return Ok(());
     }
-    let place = crossing(edge, line, number as u16)?;
+    let place = crossing(edge, &line, number as u16)?;
     put_along(stops, edge, place)?;
     Ok(())
 }
@@ -129,6 +125,11 @@ fn put_crossings(
     edge: &PlacedLine,
 ) -> Result<(), AreaError>
     requires { lines.now ≡ placed_lines map.now.tables }
+    ensures those { OnOk result ((p : Vertex) → list_any (is_at p) stops.new.items
+        ≡ (list_any (is_at p) stops.old.items
+        || (is_between edge.now p && list_any (crosses_at edge.now p) lines.now))) }
+    ensures order { OnOk result (are_cuts edge.now edge.now.from stops.old.items ≡ true
+        → are_cuts edge.now edge.now.from stops.new.items ≡ true) }
     ensures whole { OnOk result ((n : ℕ) → CrossesBetween lines.now edge.now n → ⊥) }
     ensures refused { IfErr result (IsEdgeRefusal lines.now edge.now) }
 {
@@ -148,14 +149,15 @@ fn cut_edge(
     ground: &Ground,
     edge: &PlacedLine,
 ) -> Result<CutEdge, AreaError>
+    requires vertices { ground.now.vertices.items ≡ map.now.tables.vertices }
     requires lines { ground.now.lines.items ≡ placed_lines map.now.tables }
     ensures edge { IfOk result (λ cut. cut.edge ≡ edge.now) }
+    ensures met { IfOk result (IsCutWhereMet map.now.tables) }
     ensures whole { OnOk result
         ((n : ℕ) → CrossesBetween (placed_lines map.now.tables) edge.now n → ⊥) }
     ensures refused { IfErr result (IsEdgeRefusal (placed_lines map.now.tables) edge.now) }
 {
-    let mut cuts = Vec::new(alloc);
-    put_vertices(&mut cuts, &ground.vertices, edge)?;
+    let mut cuts = cuts_of(alloc, &ground.vertices, edge)?;
     put_crossings(&mut cuts, map, &ground.lines, edge)?;
     Ok(CutEdge { edge: *edge, cuts })
 }
@@ -167,8 +169,10 @@ fn cut_all(
     ground: &Ground,
     edges: &[PlacedLine],
 ) -> Result<Vec<CutEdge>, AreaError>
+    requires vertices { ground.now.vertices.items ≡ map.now.tables.vertices }
     requires lines { ground.now.lines.items ≡ placed_lines map.now.tables }
     ensures edges { IfOk result (λ cut. uncut cut.items ≡ edges.now) }
+    ensures met { IfOk result (λ cut. All (IsCutWhereMet map.now.tables) cut.items) }
     ensures whole { OnOk result (CrossWhole (placed_lines map.now.tables) edges.now) }
     ensures refused { IfErr result (AreEdgesRefused (placed_lines map.now.tables) edges.now) }
 {
@@ -183,7 +187,10 @@ fn cut_all(
 }
 
 // Where the edges are cut, in order round the polygon, and where they begin.
-fn stops_of(alloc: Global, cut_edges: &[CutEdge]) -> Result<Vec<Vertex>, AllocError> {
+fn stops_of(alloc: Global, cut_edges: &[CutEdge]) -> Result<Vec<Vertex>, AllocError>
+    ensures { IfOk result (λ stops. (p : Vertex)
+        → list_any (is_at p) stops.items ≡ is_cut_at cut_edges.now p) }
+{
     let mut stops = Vec::new(alloc);
     for cut in cut_edges {
         stops.push(cut.edge.from)?;
@@ -199,10 +206,13 @@ pub(crate) fn border_of(
     ground: &Ground,
     edges: Vec<PlacedLine>,
 ) -> Result<Border, AreaError>
+    requires vertices { ground.now.vertices.items ≡ map.now.tables.vertices }
     requires lines { ground.now.lines.items ≡ placed_lines map.now.tables }
     ensures edges { IfOk result (λ border. border.edges.items ≡ edges.items) }
     ensures doubled { IfOk result (λ border. border.doubled.items ≡ doubled edges.items) }
     ensures cut_edges { IfOk result (λ border. uncut border.cut_edges.items ≡ edges.items) }
+    ensures stops { IfOk result (λ border. (p : Vertex) → list_any (is_at p) border.stops.items
+        ≡ is_border_stop map.now.tables edges.items p) }
     ensures whole { OnOk result (CrossWhole (placed_lines map.now.tables) edges.items) }
     ensures refused { IfErr result IsOfCrossing }
     ensures reason { IfErr result

@@ -4,7 +4,7 @@ ghost use Rattle.std.specs.List.{list_any};
 ghost use Rattle.map_areas.specs.Apart.{doubled};
 ghost use Rattle.map_areas.specs.Bordered.{divides, faces_sector, has_on_left, has_on_right, is_wall_along, is_walled, leads};
 ghost use Rattle.map_areas.specs.Cuts.{IsWalled};
-ghost use Rattle.map_areas.specs.Errors.{IsOfRange};
+ghost use Rattle.map_areas.specs.Errors.{IsOfTrial};
 ghost use Rattle.map_plane.specs.Places.{placed_lines};
 
 use crate::border::{Border, CutEdge};
@@ -183,11 +183,11 @@ pub(crate) fn find_bordered(
     requires new_lines { lines.now ≡ placed_lines new.now.tables }
     ensures walled { OnOk result
         (All (IsWalled old.now.tables new.now.tables sector) border.now.cut_edges.items) }
-    ensures refused { IfErr result IsOfRange }
+    ensures refused { IfErr result IsOfTrial }
 {
     for cut in &border.cut_edges {
         if !are_walled(old, ground, new, lines, sector, cut) {
-            return Err(AreaError::OutOfRange);
+            return Err(AreaError::NotDrawn);
         }
     }
     Ok(())

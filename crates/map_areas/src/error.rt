@@ -34,6 +34,8 @@ pub enum AreaError {
     OverVertex { vertex: u16 },
     /// A command would be refused so: a table is full, or a line is too long.
     Refused(MapError),
+    /// The commands that would draw it don't pass their trial, which is a fault of this crate.
+    NotDrawn,
     OutOfMemory,
 }
 
@@ -63,10 +65,12 @@ impl fmt::Display for AreaError {
                 "line {line} is crossed near ({},{}), at no whole place",
                 near.x, near.y
             ),
+            AreaError::SeveralSectors { first, second } if first == second => write!(f, "{first}"),
             AreaError::SeveralSectors { first, second } => write!(f, "{first}, {second}"),
             AreaError::NotEmpty { line } => write!(f, "line {line} is there"),
             AreaError::OverVertex { vertex } => write!(f, "vertex {vertex} is there"),
             AreaError::Refused(error) => write!(f, "{error}"),
+            AreaError::NotDrawn => f.write_str("its commands don't draw it"),
             AreaError::OutOfMemory => f.write_str("out of memory"),
         }
     }
@@ -116,6 +120,7 @@ impl AreaError {
             AreaError::NotEmpty { .. } => 28,
             AreaError::OverVertex { .. } => 28,
             AreaError::Refused(error) => error.code(),
+            AreaError::NotDrawn => 2,
             AreaError::OutOfMemory => 31,
         }
     }

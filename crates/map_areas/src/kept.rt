@@ -2,7 +2,7 @@
 ghost use Rattle.std.specs.Prelude.{◌≡◌, ◌↔◌, ◌⊎◌, ℕ, IfErr, IsTrue, None, OnOk, Some, true};
 ghost use Rattle.std.specs.List.{list_any};
 ghost use Rattle.map_areas.specs.Changes.{KeepsUnchanged, sets_line, sets_side};
-ghost use Rattle.map_areas.specs.Errors.{IsOfRange};
+ghost use Rattle.map_areas.specs.Errors.{IsOfTrial};
 ghost use Rattle.map_areas.specs.Stays.{BecomesAt, BecomesLine, BecomesSide, EachBecomes, IsMadeOpen, IsTurned, TakesOver, no_texture, opened_flags};
 
 use crate::error::AreaError;
@@ -177,10 +177,10 @@ pub(crate) fn find_kept(
         (EachBecomes (BecomesSide round sector) map.now.tables.sides new.now.tables.sides) }
     ensures lines { OnOk result
         (EachBecomes BecomesLine map.now.tables.lines new.now.tables.lines) }
-    ensures refused { IfErr result IsOfRange }
+    ensures refused { IfErr result IsOfTrial }
 {
     if keeps_all_changed(map, new, round, sector, changing) {
         return Ok(());
     }
-    Err(AreaError::OutOfRange)
+    Err(AreaError::NotDrawn)
 }

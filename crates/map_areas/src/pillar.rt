@@ -5,8 +5,10 @@ ghost use Rattle.std.specs.Option.{option_map_or};
 ghost use Rattle.map_areas.specs.Areas.{AcceptsPillar, RefusesPillar};
 ghost use Rattle.map_areas.specs.Drawn.{AreTaken, drawn};
 ghost use Rattle.map_areas.specs.Errors.{IsOfMap};
+ghost use Rattle.map_areas.specs.InRange.{IsPillarInRange, JudgesRange};
 ghost use Rattle.map_areas.specs.Refusals.{IsLineInside, IsPillarRefusal, IsVertexUnder, MayStand, are_apart, is_corner_part, is_in_the_way, touches};
 ghost use Rattle.map_areas.specs.Stays.{KeepsItems};
+ghost use Rattle.map_areas.specs.declared.error.AreaError.TheVariants.{OutOfRange};
 ghost use Rattle.map_commands.specs.Step.{InRange};
 ghost use Rattle.map_plane.specs.Meeting.{is_at, is_on};
 ghost use Rattle.map_plane.specs.Nearest.{sector_of_place};
@@ -15,6 +17,7 @@ ghost use Rattle.map_plane.specs.Places.{placed_lines};
 use crate::drawing::{Drawing, drawing_of, vertex_of};
 use crate::error::{AreaError, Part};
 use crate::polygon::polygon;
+use crate::ranges::is_pillar_in_range;
 use crate::trial::try_commands;
 use crate::walls::{add_side, add_wall, solid_side};
 use crate::ways::is_same;
@@ -74,7 +77,7 @@ fn apart(map: &Map, edges: &[PlacedLine], first: Part, second: Part) -> AreaErro
     if are_apart(map, edges, &first, &second) {
         AreaError::SeveralSectors { first, second }
     } else {
-        AreaError::OutOfRange
+        AreaError::NotDrawn
     }
 }
 
@@ -86,7 +89,7 @@ fn sector_of(map: &Map, edges: &[PlacedLine]) -> Result<u16, AreaError>
     ensures reason { IfErr result (IsPillarRefusal map.now.tables edges.now) }
 {
     let Some(start) = edges.first() else {
-        return Err(AreaError::OutOfRange);
+        return Err(AreaError::NotDrawn);
     };
     let first = part_at(map, start);
     let Some(sector) = first.sector else {
@@ -220,14 +223,28 @@ fn commands_within(
     Ok(commands)
 }
 
+// Refuses a pillar of which a number or a name isn't in its range.
+fn find_in_range(pillar: &Pillar) -> Result<(), AreaError>
+    ensures range { OnOk result (IsPillarInRange pillar.now) }
+    ensures refused { IfErr result (λ e. (e ≡ OutOfRange) × (IsPillarInRange pillar.now → ⊥)) }
+{
+    if is_pillar_in_range(pillar) {
+        return Ok(());
+    }
+    Err(AreaError::OutOfRange)
+}
+
 /// The commands that draw the pillar into the map.
 pub fn pillar_commands(alloc: Global, map: &Map, pillar: &Pillar) -> Result<Vec<Command>, AreaError>
     ensures ok { IfOk result (λ commands.
         AcceptsPillar map.now.tables pillar.now.corners.items commands.items) }
     ensures range { IfOk result (λ commands. All InRange commands.items) }
     ensures refused { IfErr result (RefusesPillar map.now.tables pillar.now.corners.items) }
+    ensures in_range { OnOk result (IsPillarInRange pillar.now) }
+    ensures out_of_range { IfErr result (JudgesRange (IsPillarInRange pillar.now)) }
 {
     let edges = polygon(alloc, &pillar.corners, false)?;
+    find_in_range(pillar)?;
     let commands = commands_within(alloc, map, pillar.wall, &edges)?;
     Ok(commands)
 }

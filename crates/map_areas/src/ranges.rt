@@ -1,9 +1,12 @@
 //! Whether the numbers and names of what an edit adds or sets are in their ranges.
-ghost use Rattle.std.specs.Prelude.{◌≡◌, ◌↔◌, ◌≤◌, IsTrue, pos};
+ghost use Rattle.std.specs.Prelude.{◌≡◌, ◌↔◌, ◌≤◌, All, IsTrue, pos};
+ghost use Rattle.map_areas.specs.InRange.{IsAreaInRange, IsPillarInRange};
 ghost use Rattle.map_areas.specs.Stays.{IsDrawing, IsNoThing, IsOfWall};
 ghost use Rattle.map_tables.specs.Ranges.{IsBetween, IsCode, IsEdit, IsItem, IsLine, IsNamed, IsSector, IsShort, IsSide, IsVertex, is_name, last_of, name_of, name_text};
 ghost use Rattle.map_tables.specs.Tables.{kind_of_item};
 
+use crate::area::Area;
+use crate::pillar::Pillar;
 use lump_records::{Line, NO_SIDE, Name8, Sector, Side, Vertex, is_coordinate, is_name};
 use map_tables::{Edit, Item};
 
@@ -54,6 +57,18 @@ fn is_vertex(vertex: &Vertex) -> bool
     ensures { IsTrue result ↔ IsVertex vertex.now }
 {
     is_coordinate(vertex.x) && is_coordinate(vertex.y)
+}
+
+// Whether the vertices are in range.
+fn are_vertices(vertices: &[Vertex]) -> bool
+    ensures { IsTrue result ↔ All IsVertex vertices.now }
+{
+    for vertex in vertices {
+        if !is_vertex(vertex) {
+            return false;
+        }
+    }
+    true
 }
 
 // Whether the sector's heights are in range.
@@ -166,4 +181,18 @@ pub(crate) fn is_split(line: u16, at: Vertex) -> bool
     ensures { IsTrue result → (line ≤ 32766) × IsVertex at }
 {
     line <= LAST_ITEM && is_vertex(&at)
+}
+
+/// Whether the sector of an area, its wall and its corners are in their ranges.
+pub(crate) fn is_area_in_range(area: &Area) -> bool
+    ensures { IsTrue result ↔ IsAreaInRange area.now }
+{
+    is_sector(&area.sector) && is_texture(&area.wall) && are_vertices(&area.corners)
+}
+
+/// Whether the wall of a pillar and its corners are in their ranges.
+pub(crate) fn is_pillar_in_range(pillar: &Pillar) -> bool
+    ensures { IsTrue result ↔ IsPillarInRange pillar.now }
+{
+    is_texture(&pillar.wall) && are_vertices(&pillar.corners)
 }

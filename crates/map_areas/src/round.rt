@@ -1,5 +1,5 @@
 //! What is round a border before anything is drawn.
-ghost use Rattle.std.specs.Prelude.{◌≡◌, ◌&&◌, All, IfErr, IfOk, OnOk, true};
+ghost use Rattle.std.specs.Prelude.{◌≡◌, ◌<◌, ◌&&◌, All, IfErr, IfOk, OnOk, length, true};
 ghost use Rattle.std.specs.List.{list_any};
 ghost use Rattle.map_areas.specs.Apart.{doubled};
 ghost use Rattle.map_areas.specs.Bordered.{is_led_to};
@@ -70,7 +70,7 @@ fn several(map: &Map, ground: &Ground, border: &Border, first: Part, second: Par
     if are_several(map, ground, &border.edges, &first, &second) {
         AreaError::SeveralSectors { first, second }
     } else {
-        AreaError::OutOfRange
+        AreaError::NotDrawn
     }
 }
 
@@ -109,7 +109,7 @@ fn follow_part(
 {
     let way = way(from, to);
     if !comes_first(edge, from, to) || !is_clear(map, ground, &way) {
-        return Err(AreaError::OutOfRange);
+        return Err(AreaError::NotDrawn);
     }
     let sector = sector_on_right(map, ground, &way);
     if !is_same(sector, first.sector) {
@@ -139,7 +139,7 @@ fn follow_to_stop(
         border.now.doubled.items) }
 {
     if !is_stop(map, ground, edge, to) {
-        return Err(AreaError::OutOfRange);
+        return Err(AreaError::NotDrawn);
     }
     follow_part(map, ground, border, first, edge, from, to)
 }
@@ -182,12 +182,13 @@ pub(crate) fn sector_round(
     requires doubled { ground.now.doubled.items ≡ doubled (placed_lines map.now.tables) }
     ensures led { IfOk result (λ round. All (IsLed map.now.tables round)
         border.now.cut_edges.items) }
+    ensures some { OnOk result (0 < length border.now.cut_edges.items) }
     ensures refused { IfErr result IsOfSectors }
     ensures reason { IfErr result (IsAreaRefusal map.now.tables border.now.edges.items
         border.now.doubled.items) }
 {
     let Some(start) = border.cut_edges.first() else {
-        return Err(AreaError::OutOfRange);
+        return Err(AreaError::NotDrawn);
     };
     let first = first_part(map, ground, start);
     for cut in &border.cut_edges {

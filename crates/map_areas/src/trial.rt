@@ -2,7 +2,7 @@
 ghost use Rattle.std.specs.Prelude.{◌≡◌, ◌≤◌, All, IfErr, IfOk, IsTrue, Ok, OnOk};
 ghost use Rattle.map_areas.specs.Changes.{KeepsUnchanged};
 ghost use Rattle.map_areas.specs.Drawn.{DrawsOn, IsFaultOf, IsOnOutline, LeadTo, RefusesOnEdges, RefusesDrawing, TakesCommand};
-ghost use Rattle.map_areas.specs.Errors.{IsOfRange};
+ghost use Rattle.map_areas.specs.Errors.{IsOfTrial};
 ghost use Rattle.map_areas.specs.Stays.{Draws, IsDrawing, KeepsItems};
 ghost use Rattle.map_commands.specs.Step.{InRange};
 ghost use Rattle.map_commands.specs.declared.command.Command.TheVariants as command;
@@ -56,12 +56,12 @@ fn try_edit(map: &mut Map, edit: &Edit) -> Result<(), AreaError>
 fn put(map: &mut Map, edit: Edit) -> Result<u32, AreaError>
     requires { IsEdit edit }
     ensures made { IfOk result (λ n. edited map.old.tables edit ≡ Ok (map.new.tables, n)) }
-    ensures refused { IfErr result IsOfRange }
+    ensures refused { IfErr result IsOfTrial }
 {
     match map.edit(edit) {
         Ok(number) => Ok(number),
         Err(MapError::OutOfMemory) => Err(AreaError::OutOfMemory),
-        Err(_) => Err(AreaError::OutOfRange),
+        Err(_) => Err(AreaError::NotDrawn),
     }
 }
 
@@ -70,14 +70,14 @@ fn cut(map: &mut Map, split: &LineSplit) -> Result<(), AreaError>
     requires { (split.now.line ≤ 32766) × IsVertex split.now.at }
     ensures taken { OnOk result
         (TakesCommand map.old.tables (command.Split split.now) map.new.tables) }
-    ensures refused { IfErr result IsOfRange }
+    ensures refused { IfErr result IsOfTrial }
 {
     let vertex = map.count(Kind::Vertex) as u16;
     let Some(line) = map.line(u32::from(split.line)) else {
-        return Err(AreaError::OutOfRange);
+        return Err(AreaError::NotDrawn);
     };
     if vertex > 32_766 {
-        return Err(AreaError::OutOfRange);
+        return Err(AreaError::NotDrawn);
     }
     let short = Line { v2: vertex, ..line };
     let rest = Line { v1: vertex, ..line };
@@ -109,7 +109,7 @@ fn make(map: &mut Map, command: &Command) -> Result<(), AreaError>
     match command {
         Command::Edit(edit) => try_edit(map, edit),
         Command::Split(split) => try_split(map, split),
-        _ => Err(AreaError::OutOfRange),
+        _ => Err(AreaError::NotDrawn),
     }
 }
 
@@ -120,7 +120,7 @@ fn try_command(map: &mut Map, edges: &[PlacedLine], command: &Command) -> Result
     ensures refused { IfErr result (RefusesOnEdges map.old.tables edges.now command.now) }
 {
     if !draws_on(edges, command) {
-        return Err(AreaError::OutOfRange);
+        return Err(AreaError::NotDrawn);
     }
     make(map, command)
 }

@@ -1,5 +1,5 @@
 //! The way from one place to another, and what was along it and on its left.
-ghost use Rattle.std.specs.Prelude.{◌≡◌, ◌&&◌, IfOk, find};
+ghost use Rattle.std.specs.Prelude.{◌≡◌, ◌&&◌, IfOk, find, slice_get};
 ghost use Rattle.std.specs.List.{list_any};
 ghost use Rattle.map_areas.specs.Apart.{doubled};
 ghost use Rattle.map_areas.specs.Ways.{comes_before, crosses_way, faces_left, is_between, is_clear, is_left_of_way, is_same, left_faced, right_faced, runs_along, runs_with, sector_between, sector_by_side, sector_on_right, side_on_left, side_on_right, way};
@@ -81,6 +81,13 @@ pub(crate) fn crosses_way(way: &PlacedLine, line: &PlacedLine) -> bool
     ensures { result ≡ crosses_way way.now line.now }
 {
     boxes_meet(way, line) && crosses(way, line)
+}
+
+/// The line with the number.
+pub(crate) fn line_at(lines: &[PlacedLine], number: u32) -> Option<PlacedLine>
+    ensures { result ≡ slice_get lines.now number }
+{
+    lines.get(number as usize).copied()
 }
 
 // Whether one of the vertices lies on the way, between its ends.

@@ -1,4 +1,8 @@
 use Rattle.std.proofs.Common.{◌≡◌, ℕ, All, List, Option, ◌∙◌, ap, subst, sym}
+use Rattle.std.specs.List.{list_any}
+use Rattle.lump_records.specs.declared.records.Vertex.{Vertex}
+use Rattle.map_plane.specs.Meeting.{is_at}
+use Rattle.map_areas.specs.Inside.{is_border_stop}
 use Rattle.map_commands.specs.declared.command.Command.{Command}
 use Rattle.map_plane.specs.declared.places.PlacedLine.{PlacedLine}
 use Rattle.map_plane.specs.Places.{placed_lines}
@@ -8,10 +12,10 @@ use Rattle.map_areas.specs.Cuts.{IsLed, uncut}
 use Rattle.map_areas.specs.Drawn.{LeadTo, RefusesDrawing}
 use Rattle.map_areas.specs.Errors.{IsOfMap}
 use Rattle.map_areas.specs.Order.{ComesAfterSectors, ComesInOrder, MayBecome}
-use Rattle.map_areas.specs.Refusals.{CrossWhole}
+use Rattle.map_areas.specs.Refusals.{CrossWhole, LiesInVoid}
 use Rattle.map_areas.specs.declared.border.CutEdge.{CutEdge}
 use Rattle.map_areas.proofs.Bordering.{covered_all}
-use Rattle.map_areas.proofs.InOrder.{crossing_in_order, crossing_of_map, drawing_in_order, passed_on, range_in_order, round_in_order, round_of_map}
+use Rattle.map_areas.proofs.InOrder.{crossing_in_order, crossing_of_map, drawing_in_order, passed_on, trial_in_order, round_in_order, round_of_map}
 use Rattle.map_areas.proofs.Led.{not_several}
 use Rattle.map_areas.proofs.Others.{others_changing}
 use Rattle.map_areas.proofs.Whole.{bordered_drawn, stays_drawn}
@@ -42,13 +46,25 @@ returns-clause-area c =
     }
 
 -- what is known once the border is followed
-becomes : (m : Tables) (round : Option ℕ) (cs : List CutEdge) (es : List PlacedLine) → CrossWhole (placed_lines m) es → uncut cs ≡ es → All (IsLed m round) cs → MayBecome m es
-becomes m round cs es whole edges led = record { whole = whole; sectors = not_several m round cs es edges led }
+becomes : (m : Tables) (round : Option ℕ) (cs : List CutEdge) (fs ds es : List PlacedLine) → fs ≡ es → ds ≡ doubled es → CrossWhole (placed_lines m) es → uncut cs ≡ es
+    → All (IsLed m round) cs → ((n : ℕ) → LiesInVoid m fs ds n → ⊥) → MayBecome m es
+becomes m round cs fs ds es same twice whole edges led empty = record {
+  border = record { whole = whole; sectors = not_several m round cs es edges led };
+  empty = λ n h. empty n (subst (λ (ls : List PlacedLine). LiesInVoid m ls ds n) (sym same) (subst (λ (gs : List PlacedLine). LiesInVoid m es gs n) (sym twice) h));
+}
 
 pub returns-clause-becomes : goal.returns-clause-becomes
 returns-clause-becomes c =
-    becomes c.args.map.now.tables c.in_ok-round.round c.in_ok-border.border.cut_edges.items c.args.edges.items c.in_ok-border.ensures.whole
-    c.in_ok-border.ensures.cut_edges c.in_ok-round.ensures.led
+    let border = c.in_ok-border.border in
+    becomes c.args.map.now.tables c.in_ok-round.round border.cut_edges.items border.edges.items border.doubled.items c.args.edges.items c.in_ok-border.ensures.edges
+    c.in_ok-border.ensures.doubled c.in_ok-border.ensures.whole c.in_ok-border.ensures.cut_edges c.in_ok-round.ensures.led c.in_ok-round.ensures.empty
+
+pub find_round-requires-clause-stops : goal.find_round-requires-clause-stops
+find_round-requires-clause-stops c =
+    let m = c.args.map.now.tables in
+    let border = c.in_ok-border.border in
+    subst (λ (ls : List PlacedLine). (p : Vertex) → list_any (is_at p) border.stops.items ≡ is_border_stop m ls p) (sym c.in_ok-border.ensures.edges)
+    c.in_ok-border.ensures.stops
 
 pub returns-in_err-border-clause-refused : goal.returns-in_err-border-clause-refused
 returns-in_err-border-clause-refused c =
@@ -84,10 +100,12 @@ returns-in_err-new-clause-order c =
     let m = c.args.map.now.tables in
     let es = c.args.edges.items in
     let e = c.in_err-new.field-0.0 in
+    let border = c.in_ok-border.border in
     passed_on (ComesInOrder m es) c.from_residual-in_err-new.result e c.from_residual-in_err-new.ensures.1
     (drawing_in_order m es e
     (subst (λ (ls : List PlacedLine). RefusesDrawing m ls e) (c.deref-2.ensures.value ∙ c.in_ok-border.ensures.edges) c.in_err-new.ensures.refused)
-    (becomes m c.in_ok-round.round c.in_ok-border.border.cut_edges.items es c.in_ok-border.ensures.whole c.in_ok-border.ensures.cut_edges c.in_ok-round.ensures.led))
+    (becomes m c.in_ok-round.round border.cut_edges.items border.edges.items border.doubled.items es c.in_ok-border.ensures.edges c.in_ok-border.ensures.doubled
+    c.in_ok-border.ensures.whole c.in_ok-border.ensures.cut_edges c.in_ok-round.ensures.led c.in_ok-round.ensures.empty))
 
 pub returns-in_err-look_at-clause-order : goal.returns-in_err-look_at-clause-order
 returns-in_err-look_at-clause-order c =
@@ -95,7 +113,7 @@ returns-in_err-look_at-clause-order c =
     let es = c.args.edges.items in
     let e = c.in_err-look_at.field-0.0 in
     passed_on (ComesInOrder m es) c.from_residual-in_err-look_at.result e c.from_residual-in_err-look_at.ensures.1
-    (range_in_order m es e c.in_err-look_at.ensures.refused)
+    (trial_in_order m es e c.in_err-look_at.ensures.refused)
 
 pub look_at-requires-clause-others : goal.look_at-requires-clause-others
 look_at-requires-clause-others c =

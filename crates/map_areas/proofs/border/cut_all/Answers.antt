@@ -1,10 +1,12 @@
 use Rattle.std.proofs.Common.{◌≡◌, ℕ, ◌<◌, ◌∙◌, [], ◌∷◌, ◌++◌, List, Some, ap, sym, get_or, length, ◌+◌, take, subst, below_more}
 use Rattle.std.specs.List.{slice_get}
+use Rattle.std.specs.Prelude.{All}
+use Rattle.std.proofs.lemmas.List.Elements.{All-push}
 use Rattle.std.proofs.lemmas.List.{map-append, take_all, take_more}
 use Rattle.std.proofs.lemmas.Option.{get_or_from_slice_get, slice_get-get_or}
 use Rattle.map_plane.specs.Places.{placed_lines}
 use Rattle.map_plane.specs.declared.places.PlacedLine.{PlacedLine}
-use Rattle.map_areas.specs.Cuts.{uncut}
+use Rattle.map_areas.specs.Cuts.{IsCutWhereMet, uncut}
 use Rattle.map_areas.specs.Refusals.{CrossesBetween}
 use Rattle.map_areas.specs.declared.border.CutEdge.{CutEdge}
 use Rattle.map_areas.proofs.Crossings.{edge_refused, whole_all}
@@ -18,6 +20,9 @@ more old new cut es i d lt is so edge =
 
 pub loop-edge-preserved : goal.loop-edge-preserved
 loop-edge-preserved c = record {
+  met =
+      subst (λ (cs : List CutEdge). All (IsCutWhereMet c.args.map.now.tables) cs) (sym c.in_ok-push-in-Ok.ensures.items)
+      (All-push (IsCutWhereMet c.args.map.now.tables) c.loop-edge.all.items c.in-Ok.cut c.loop-edge.invariant.met c.in-Ok.ensures.met);
   edges =
       more c.loop-edge.all.items _ c.in-Ok.cut c.args.edges.now c.loop-edge.edge-index _ c.loop-edge-test.true c.in_ok-push-in-Ok.ensures.items c.loop-edge.invariant.edges
       c.in-Ok.ensures.edge;

@@ -1,7 +1,21 @@
-use Rattle.std.proofs.Common.{ℕ, List, ◌∙◌, subst}
+use Rattle.std.proofs.Common.{ℕ, ◌&&◌, ◌||◌, List, ap, ◌∙◌, subst}
+use Rattle.std.specs.List.{list_any}
+use Rattle.lump_records.specs.declared.records.Vertex.{Vertex}
+use Rattle.map_areas.proofs.Cutting.{met_there}
 use Rattle.map_areas.specs.Refusals.{CrossesBetween}
+use Rattle.map_areas.specs.Stops.{crosses_at}
+use Rattle.map_areas.specs.Ways.{is_between}
+use Rattle.map_plane.specs.Meeting.{is_at}
 use Rattle.map_plane.specs.declared.places.PlacedLine.{PlacedLine}
 use Rattle.map_areas.proofs.border.cut_edge.Goals as goal
+
+pub returns-clause-met : goal.returns-clause-met
+returns-clause-met c =
+    let e = c.args.edge.now in
+    λ p. met_there c.args.map.now.tables e p _ _
+    (c.in_ok-put_crossings.ensures.those p
+    ∙ ap (λ (ls : List PlacedLine). list_any (is_at p) c.in_ok-cuts.cuts.items || (is_between e p && list_any (crosses_at e p) ls)) (c.deref-2.ensures.value ∙ c.requires.lines))
+    (c.in_ok-cuts.ensures.those p ∙ ap (λ (vs : List Vertex). is_between e p && list_any (is_at p) vs) (c.deref.ensures.value ∙ c.requires.vertices))
 
 pub returns-clause-whole : goal.returns-clause-whole
 returns-clause-whole c =

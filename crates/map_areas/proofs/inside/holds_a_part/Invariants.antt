@@ -1,7 +1,8 @@
-use Rattle.std.proofs.Common.{◌≡◌, true}
-use Rattle.map_areas.specs.Refusals.{is_of_line}
+use Rattle.std.proofs.Common.{◌≡◌, drop}
+use Rattle.map_areas.specs.Cuts.{holds_part}
 use Rattle.map_areas.proofs.inside.holds_a_part.Given as goal
 
--- the part begins at a place of the line
+-- what is left of the line decides
 abbrev pub invariant-loop-cut : goal.invariant-loop-cut
-invariant-loop-cut l = is_of_line l.line l.from ≡ true
+invariant-loop-cut l =
+    holds_part l.border.doubled.items l.line l.line.from l.cuts ≡ holds_part l.border.doubled.items l.line l.from (drop l.cut-index l.cuts)
