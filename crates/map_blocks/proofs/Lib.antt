@@ -2,3 +2,4 @@ pub mod Defining
 pub mod Mentioned
 pub mod OneOut
 pub mod PlacedLines
+pub mod Worded

@@ -6,8 +6,8 @@ use Rattle.std.proofs.lemmas.List.Splits.{slice_split-cons_yes, slice_split-cons
 use Rattle.std.specs.List.{list_all}
 use Rattle.std.specs.Prelude.{◌||◌, ◌&&◌, not, slice_get, Some}
 use Rattle.std.proofs.lemmas.List.Sums.{position_or_len_is}
-use Rattle.std.proofs.lemmas.List.{at_drop_all, at_drop_more, take_all}
-use Rattle.std.proofs.lemmas.Option.{get_or_from_slice_get, slice_get_within}
+use Rattle.std.proofs.lemmas.List.{at_drop_all, at_drop_more, get_or-take, length-take, take_all}
+use Rattle.std.proofs.lemmas.Option.{get_or_from_slice_get, slice_get_read, slice_get_within}
 use Rattle.map_script.specs.Names.{is_script_name_byte}
 use Rattle.map_blocks.specs.Naming.{behind_dollars, front_name, parts_names}
 
@@ -72,6 +72,12 @@ front_all bs before =
     ∙ take_all (length bs) bs (omega arith)
 
 -- ---- Tests of each line
+
+-- what stands at a place stands there among the first ones too
+pub in_front : {X : Type 0} (xs : List X) (n i : ℕ) (x : X) → i < n → slice_get xs i ≡ Some x → slice_get (take n xs) i ≡ Some x
+in_front xs n i x lt is =
+    slice_get_read (take n xs) (length (take n xs)) i x refl (omega (arith, lt, slice_get_within xs i x is, length-take n xs))
+    (sym (get_or-take n xs i x lt ∙ get_or_from_slice_get xs i x x is))
 
 all_at : {X : Type 0} (f : X → Bool) (xs : List X) (i : ℕ) (x : X) → slice_get xs i ≡ Some x → list_all f (drop i xs) ≡ f x && list_all f (drop (i + 1) xs)
 all_at f xs i x is =

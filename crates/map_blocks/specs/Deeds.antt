@@ -1,10 +1,11 @@
 -- What a refused line would have done to the maps, by the word with which its command begins, and
 -- what another line may be refused for (README.md).
-use Rattle.std.specs.Prelude.{ℕ, Bool, true, false, ◌==◌, ◌||◌, ◌&&◌, nat_le, not, if◌then◌else◌, List, [], ◌∷◌, drop, bytes_eq, codes, length, slice_index}
+use Rattle.std.specs.Prelude.{ℕ, Bool, true, false, ◌==◌, ◌||◌, ◌&&◌, nat_le, not, if◌then◌else◌, List, [], ◌∷◌, drop, Option, Some, None, bytes_eq, codes, length, slice_index}
 use Rattle.std.specs.List.{list_any}
+use Rattle.map_script.specs.Defines.{define_words}
 use Rattle.map_script.specs.Lines.{command_words}
 use Rattle.map_script.specs.Words.{first_word, text_words}
-use Rattle.map_blocks.specs.Blocks.{defines}
+use Rattle.map_blocks.specs.Naming.{gives_anew}
 use Rattle.map_blocks.specs.declared.deeds.Deed.{Deed}
 use Rattle.map_blocks.specs.declared.deeds.Deed.TheVariants.{AddsSector, AddsThing, Draws, Frees, Reads, SetsThing, Turns}
 use Rattle.map_blocks.specs.declared.deeds.Ground.{Ground}
@@ -59,13 +60,20 @@ can_lift Anything d = may_change d
 
 -- ---- Which command a line is
 
--- two words are one, but for a letter at most that is another one, is missing or is too many
+-- two words begin with two letters in the one and in the other order, and are alike behind them
+abbrev pub begin_exchanged : List ℕ → List ℕ → Bool
+begin_exchanged (a ∷ b ∷ xs) (c ∷ d ∷ ys) = (a == d) && ((b == c) && bytes_eq xs ys)
+begin_exchanged xs ys = false
+
+-- two words are one, but for a letter that is another one, is missing or is too many, or for two that
+-- stand side by side in the other order
 abbrev pub are_near : List ℕ → List ℕ → Bool
 are_near [] ys = nat_le (length ys) 1
 are_near (x ∷ xs) [] = nat_le (length (x ∷ xs)) 1
 are_near (x ∷ xs) (y ∷ ys) =
     if x == y then are_near xs ys
-    else (bytes_eq xs ys || (bytes_eq (x ∷ xs) ys || bytes_eq xs (y ∷ ys)))
+    else (bytes_eq xs ys || (bytes_eq (x ∷ xs) ys || (bytes_eq xs (y ∷ ys)
+    || begin_exchanged (x ∷ xs) (y ∷ ys))))
 
 -- what a command that may free a place does to an item of the kind that its second word names
 abbrev pub freed : List ℕ → Deed
@@ -97,26 +105,37 @@ unfoldable pub command_lifts : Ground → List ℕ → List ℕ → Bool
 command_lifts cause first second =
     list_any (λ d. is_meant_as first d.0.now && can_lift cause (deed_with d.1 second)) DEEDS.now
 
--- one of some lines defines a shape
-abbrev pub one_defines : List (ℕ × List ℕ) → Bool
-one_defines lines = list_any (λ l. defines l.1) lines
+-- a shape's name, if there is one, is near to a word
+abbrev pub is_shape_near : List ℕ → Option (List (List ℕ)) → Bool
+is_shape_near word None = false
+is_shape_near word (Some ws) = are_near (first_word ws) word
 
--- a word may be meant as anything: it is near none with which a command begins, or isn't one and
--- might be that of a shape of the script
+-- a line defines a shape whose name is near to a word
+abbrev pub defines_near : List ℕ → List ℕ → Bool
+defines_near line word = is_shape_near word (define_words (text_words line))
+
+-- one of some lines does
+abbrev pub one_defines_near : List (ℕ × List ℕ) → List ℕ → Bool
+one_defines_near lines word = list_any (λ l. defines_near l.1 word) lines
+
+-- a word may be meant as anything: no command begins with it, and it is near to none with which one
+-- does, or near to that of a shape of the script
 abbrev pub is_any_word : List (ℕ × List ℕ) → List ℕ → Bool
-is_any_word lines word = not (is_known_word word) && (one_defines lines || not (is_meant word))
+is_any_word lines word =
+    not (is_known_word word) && (one_defines_near lines word || not (is_meant word))
 
 -- whether there is such a ground
 abbrev pub is_ground : Ground → Bool
 is_ground Nothing = false
 is_ground g = true
 
--- a line of the script, once it is mended, could lift what was refused on a ground
+-- a line of the script, once it is mended, could lift what was refused on a ground: by its command, or
+-- as it may give a name that other lines give too, which then stands for something else in any line
 abbrev pub could_lift : List (ℕ × List ℕ) → Ground → List ℕ → Bool
 could_lift lines cause line =
     let ws = command_words (text_words line) in
     is_ground cause && (is_any_word lines (first_word ws)
-    || command_lifts cause (first_word ws) (first_word (drop 1 ws)))
+    || (command_lifts cause (first_word ws) (first_word (drop 1 ws)) || gives_anew lines line))
 
 -- one of some lines could
 abbrev pub one_could_lift : List (ℕ × List ℕ) → Ground → List (ℕ × List ℕ) → Bool

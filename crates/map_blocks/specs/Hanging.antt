@@ -1,11 +1,12 @@
 -- Which refused lines of a script hang on others that were left out: once these are mended, they
 -- might not be refused (docs/COMMANDS.md, "Scripts"; README.md).
-use Rattle.std.specs.Prelude.{ℕ, Bool, false, true, ◌==◌, ◌||◌, ◌&&◌, not, nat_lt, if◌then◌else◌, List, [], bytes_eq, codes, get_or, length}
+use Rattle.std.specs.Prelude.{ℕ, Bool, false, true, ◌==◌, ◌||◌, ◌&&◌, not, nat_lt, if◌then◌else◌, List, [], ◌∷◌, bytes_eq, codes, get_or, length, take}
 use Rattle.std.specs.List.{list_all, list_any}
 use Rattle.map_script.specs.Lines.{command_words}
 use Rattle.map_script.specs.Words.{first_word, text_words}
 use Rattle.map_blocks.specs.Deeds.{one_could_lift, one_frees}
-use Rattle.map_blocks.specs.Naming.{is_settled, mentions_given, mentions_unknown}
+use Rattle.map_blocks.specs.Naming.{are_sums_settled, is_settled, mentions_given, mentions_unknown}
+use Rattle.map_blocks.specs.Ranges.{has_outside}
 use Rattle.map_blocks.specs.declared.deeds.Ground.{Ground}
 use Rattle.map_blocks.specs.declared.deeds.Ground.TheVariants.{Anything, Drawn, MapNames, Nothing, Place, Sectors, Things}
 use Rattle.map_blocks.specs.declared.hanging.TheConstants.{OF_DRAWN, OF_MAPS, OF_PLAIN_WORDS, OF_WORDS}
@@ -56,10 +57,25 @@ drawn_ground drawn code =
     if is_code_of OF_MAPS.now code then MapNames
     else (if drawn && is_code_of OF_DRAWN.now code then Drawn else Anything)
 
--- what a line of a script was refused for with a code, within these blocks
-abbrev pub ground_of : List (ℕ × List ℕ) → List ℕ → ℕ → List OpenBlock → Ground
-ground_of lines line code blocks =
-    if is_code_of OF_WORDS.now code || ((code == 22) && mentions_unknown lines line) then Nothing
+-- of so many first lines one may give a name that stands for something at a place, within these blocks:
+-- of those before it, or of any, since a loop may have turned, or a shape be drawn later
+abbrev pub known_until : List (ℕ × List ℕ) → ℕ → List OpenBlock → ℕ
+known_until lines place [] = place
+known_until lines place (b ∷ bs) = length lines
+
+-- words of the line at a place are the reason of its refusal with a code, whatever the others stand
+-- for: that of each such code, a name that is given nowhere or later, a number out of its range, or a
+-- sum that hangs on no map
+abbrev pub is_of_own_words : List (ℕ × List ℕ) → ℕ → List ℕ → ℕ → List OpenBlock → Bool
+is_of_own_words lines place line code blocks =
+    is_code_of OF_WORDS.now code
+    || (((code == 22) && mentions_unknown (take (known_until lines place blocks) lines) line)
+    || (((code == 2) && has_outside line) || ((code == 46) && are_sums_settled lines line)))
+
+-- what the line at a place of a script was refused for with a code, within these blocks
+abbrev pub ground_of : List (ℕ × List ℕ) → ℕ → List ℕ → ℕ → List OpenBlock → Ground
+ground_of lines place line code blocks =
+    if is_of_own_words lines place line code blocks then Nothing
     else (if are_settled false lines line blocks
     then plain_ground lines code (command_word line) (drawn_ground true code)
     else drawn_ground (are_settled true lines line blocks) code)
@@ -71,4 +87,4 @@ hangs lines out stop =
     let line = text_at_place lines stop.place in
     nat_lt 1000 (length line)
     || (mentions_given out line
-    || one_could_lift lines (ground_of lines line stop.code stop.«open».items) out)
+    || one_could_lift lines (ground_of lines stop.place line stop.code stop.«open».items) out)

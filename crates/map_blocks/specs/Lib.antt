@@ -3,5 +3,6 @@ pub mod Deeds
 pub mod Defined
 pub mod Hanging
 pub mod Naming
+pub mod Ranges
 pub mod ShapePlaces
 pub mod Stops

@@ -1,7 +1,8 @@
 -- The names in a line of a script: which it mentions, as `$NAME`, which it gives, and which it may be
 -- meant to give (docs/COMMANDS.md, "Scripts").
-use Rattle.std.specs.Prelude.{ℕ, Bool, false, ◌==◌, ◌||◌, ◌&&◌, not, if◌then◌else◌, List, [], ◌∷◌, Option, Some, None, bytes_eq, codes, length, slice_index, is_some}
+use Rattle.std.specs.Prelude.{ℕ, Bool, false, ◌==◌, ◌||◌, ◌&&◌, not, if◌then◌else◌, List, [], ◌∷◌, ◌++◌, Option, Some, None, bytes_eq, codes, drop, length, slice_index, is_some, unwrap_or}
 use Rattle.std.specs.List.{before_first, list_all, list_any, slice_split}
+use Rattle.map_script.specs.Defines.{define_words}
 use Rattle.map_script.specs.Lines.{let_words, name_in}
 use Rattle.map_script.specs.Loops.{loop_words}
 use Rattle.map_script.specs.Names.{is_script_name_byte}
@@ -79,6 +80,30 @@ may_give name line =
 abbrev pub one_may_give : List (ℕ × List ℕ) → List ℕ → Bool
 one_may_give lines name = list_any (λ l. may_give name l.1) lines
 
+-- the first of some words, if there are some
+abbrev pub first_of_words : Option (List (List ℕ)) → List (List ℕ)
+first_of_words None = []
+first_of_words (Some ws) = first_word ws ∷ []
+
+-- the name that is there
+abbrev pub only_name : Option (List ℕ) → List (List ℕ)
+only_name None = []
+only_name (Some n) = n ∷ []
+
+-- the names that a line of these words gives: by `=`, `let` or `for`, or as a shape's parameters
+abbrev pub given_names : List (List ℕ) → List (List ℕ)
+given_names ws =
+    only_name (name_in ws) ++ (first_of_words (let_words ws) ++ (first_of_words (loop_words ws)
+    ++ drop 1 (unwrap_or (define_words ws) [])))
+
+-- a line gives a name that another one, which was refused, may be meant to give
+abbrev pub gives_one_of : List ℕ → List ℕ → Bool
+gives_one_of line other = list_any (λ name. may_give name other) (given_names (text_words line))
+
+-- one of some lines does
+abbrev pub gives_anew : List (ℕ × List ℕ) → List ℕ → Bool
+gives_anew lines other = list_any (λ l. gives_one_of l.1 other) lines
+
 -- ---- What the words of a line hang on
 
 -- a line mentions a name that one of some lines may be meant to give
@@ -108,3 +133,13 @@ abbrev pub is_settled : Bool → List (ℕ × List ℕ) → List ℕ → Bool
 is_settled places lines line =
     list_all (λ t. (is_name_front t && is_plain_name lines (front_name t))
     || (places && is_place_front t)) (behind_dollars line)
+
+-- a word is `$NAME` or `$NAME.KIND`, and no sum
+abbrev pub is_bare_word : List ℕ → Bool
+is_bare_word [] = false
+is_bare_word (b ∷ bs) = (b == 36) && list_all (λ b. is_script_name_byte b || (b == 46)) bs
+
+-- each sum of a line hangs on no map
+abbrev pub are_sums_settled : List (ℕ × List ℕ) → List ℕ → Bool
+are_sums_settled lines line =
+    list_all (λ word. is_bare_word word || is_settled false lines word) (text_words line)

@@ -1,9 +1,10 @@
 //! What a refused line would have done to the maps, by the word with which its command begins.
 ghost use Rattle.std.specs.Prelude.{◌≡◌, ◌==◌, ◌&&◌, bytes_eq, slice_index};
 ghost use Rattle.std.specs.List.{list_any};
-ghost use Rattle.map_blocks.specs.Blocks.{defines};
-ghost use Rattle.map_blocks.specs.Deeds.{are_near, can_lift, command_lifts, could_lift, deed_with, freed, frees_place, is_any_word, is_ground, is_known_word, is_meant, is_meant_as, may_add_sector, may_add_thing, may_change, may_draw, may_free, may_turn, one_could_lift, one_defines, one_frees};
+ghost use Rattle.map_blocks.specs.Naming.{gives_anew};
+ghost use Rattle.map_blocks.specs.Deeds.{are_near, begin_exchanged, can_lift, command_lifts, could_lift, deed_with, defines_near, freed, frees_place, is_any_word, is_ground, is_known_word, is_meant, is_meant_as, may_add_sector, may_add_thing, may_change, may_draw, may_free, may_turn, one_could_lift, one_defines_near, one_frees};
 
+use crate::mentioning::gives_anew;
 use map_script::{ScriptLines, command_of, define_words, first_word};
 
 /// What a command does to the maps.
@@ -158,8 +159,22 @@ fn can_lift(cause: Ground, deed: Deed) -> bool
 
 // ---- Which command a line is
 
-// Whether two words are one, but for a letter at most.
-fn are_near(one: &[u8], other: &[u8]) -> bool
+// Whether two words begin with two letters in the one and in the other order, and are alike behind them.
+fn begin_exchanged(one: &[u8], other: &[u8]) -> bool
+    ensures { result ≡ begin_exchanged one.now other.now }
+{
+    match one {
+        [a, b, rest @ ..] => match other {
+            [c, d, more @ ..] => *a == *d && *b == *c && rest == more,
+            _ => false,
+        },
+        _ => false,
+    }
+}
+
+/// Whether two words are one, but for a letter that is another one, is missing or is too many, or for two that stand
+/// side by side in the other order.
+pub fn are_near(one: &[u8], other: &[u8]) -> bool
     ensures { result ≡ are_near one.now other.now }
 {
     match one {
@@ -170,7 +185,7 @@ fn are_near(one: &[u8], other: &[u8]) -> bool
                 if *a == *b {
                     are_near(rest, more)
                 } else {
-                    rest == more || one == more || rest == other
+                    rest == more || one == more || rest == other || begin_exchanged(one, other)
                 }
             }
         },
@@ -256,19 +271,22 @@ fn command_lifts(cause: Ground, first: &[u8], second: &[u8]) -> bool
     lifts_among(DEEDS, cause, first, second)
 }
 
-// Whether a line defines a shape.
-fn defines(line: &[u8]) -> bool
-    ensures { result ≡ defines line.now }
+// Whether a line defines a shape whose name is near to a word.
+fn defines_near(line: &[u8], word: &[u8]) -> bool
+    ensures { result ≡ defines_near line.now word.now }
 {
-    define_words(line).is_some()
+    match define_words(line) {
+        Some(words) => are_near(first_word(words).0, word),
+        None => false,
+    }
 }
 
-// Whether one of some lines defines a shape.
-fn one_defines(lines: &ScriptLines) -> bool
-    ensures { result ≡ one_defines lines.now }
+// Whether one of some lines defines a shape whose name is near to a word.
+fn one_defines_near(lines: &ScriptLines, word: &[u8]) -> bool
+    ensures { result ≡ one_defines_near lines.now word.now }
 {
     for place in 0..lines.len() {
-        if defines(lines.line(place).text) {
+        if defines_near(lines.line(place).text, word) {
             return true;
         }
     }
@@ -279,9 +297,10 @@ fn one_defines(lines: &ScriptLines) -> bool
 fn is_any_word(lines: &ScriptLines, word: &[u8]) -> bool
     ensures { result ≡ is_any_word lines.now word.now }
 {
-    !is_known_word(word) && (one_defines(lines) || !is_meant(word))
+    !is_known_word(word) && (one_defines_near(lines, word) || !is_meant(word))
 }
 
+// Whether a refusal has a ground beside the line's own words.
 fn is_ground(cause: Ground) -> bool
     ensures { result ≡ is_ground cause }
 {
@@ -297,7 +316,10 @@ fn could_lift(lines: &ScriptLines, cause: Ground, line: &[u8]) -> bool
 {
     let (first, rest) = first_word(command_of(line));
     let (second, _) = first_word(rest);
-    is_ground(cause) && (is_any_word(lines, first) || command_lifts(cause, first, second))
+    is_ground(cause)
+        && (is_any_word(lines, first)
+            || command_lifts(cause, first, second)
+            || gives_anew(lines, line))
 }
 
 /// Whether one of some lines of a script, once it is mended, could lift what was refused on a ground.

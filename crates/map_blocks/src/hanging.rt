@@ -1,12 +1,13 @@
 //! Which refused lines of a script hang on others that were left out: once these are mended, they might not be refused.
-ghost use Rattle.std.specs.Prelude.{◌≡◌, ◌<◌, length};
+ghost use Rattle.std.specs.Prelude.{◌≡◌, ◌<◌, ◌≤◌, length};
 ghost use Rattle.std.specs.List.{list_all};
-ghost use Rattle.map_blocks.specs.Hanging.{are_settled, command_word, drawn_ground, ground_of, hangs, is_code_of, is_of_plain_words, plain_ground, puts_vertex, text_at_place};
+ghost use Rattle.map_blocks.specs.Hanging.{are_settled, command_word, drawn_ground, ground_of, hangs, is_code_of, is_of_own_words, is_of_plain_words, known_until, plain_ground, puts_vertex, text_at_place};
 ghost use Rattle.map_blocks.specs.Deeds.{one_could_lift};
 ghost use Rattle.map_blocks.specs.Naming.{is_settled};
 
 use crate::deeds::{Ground, one_could_lift, one_frees};
-use crate::mentioning::{is_settled, mentions_given, mentions_unknown};
+use crate::mentioning::{are_sums_settled, is_settled, mentions_given, mentions_unknown};
+use crate::ranges::has_outside;
 use crate::stop::{OpenBlock, Stop};
 use map_script::{ScriptLines, closes, command_of, first_word, opens};
 
@@ -108,11 +109,47 @@ fn drawn_ground(drawn: bool, code: u16) -> Ground
     }
 }
 
-// What a line of a script was refused for with a code, within these blocks.
-fn ground_of(lines: &ScriptLines, line: &[u8], code: u16, blocks: &[OpenBlock]) -> Ground
-    ensures { result ≡ ground_of lines.now line.now code blocks.now }
+// Of how many first lines one may give a name that stands for something at a place, within these blocks.
+fn known_until(lines: &ScriptLines, place: usize, blocks: &[OpenBlock]) -> usize
+    requires { place ≤ length lines.now }
+    ensures known { result ≡ known_until lines.now place blocks.now }
+    ensures within { result ≤ length lines.now }
 {
-    if is_code_of(OF_WORDS, code) || (code == 22 && mentions_unknown(lines, line)) {
+    match blocks {
+        [] => place,
+        [_, ..] => lines.len(),
+    }
+}
+
+// Whether words of the line at a place are the reason of its refusal with a code, whatever the others stand for.
+fn is_of_own_words(
+    lines: &ScriptLines,
+    place: usize,
+    line: &[u8],
+    code: u16,
+    blocks: &[OpenBlock],
+) -> bool
+    requires { place ≤ length lines.now }
+    ensures { result ≡ is_of_own_words lines.now place line.now code blocks.now }
+{
+    is_code_of(OF_WORDS, code)
+        || (code == 22 && mentions_unknown(lines, known_until(lines, place, blocks), line))
+        || (code == 2 && has_outside(line))
+        || (code == 46 && are_sums_settled(lines, line))
+}
+
+// What the line at a place of a script was refused for with a code, within these blocks.
+fn ground_of(
+    lines: &ScriptLines,
+    place: usize,
+    line: &[u8],
+    code: u16,
+    blocks: &[OpenBlock],
+) -> Ground
+    requires { place ≤ length lines.now }
+    ensures { result ≡ ground_of lines.now place line.now code blocks.now }
+{
+    if is_of_own_words(lines, place, line, code, blocks) {
         Ground::Nothing
     } else if are_settled(false, lines, line, blocks) {
         plain_ground(lines, code, command_word(line), drawn_ground(true, code))
@@ -129,18 +166,15 @@ fn text_at(lines: &ScriptLines, place: usize) -> &[u8]
     lines.line(place).text
 }
 
-// Whether one of some lines could lift the refusal of a line with this code, within these blocks.
-fn one_lifts(
-    lines: &ScriptLines,
-    left_out: &ScriptLines,
-    line: &[u8],
-    code: u16,
-    blocks: &[OpenBlock],
-) -> bool
+// Whether one of some lines could lift the refusal of this line at a stop.
+fn one_lifts(lines: &ScriptLines, left_out: &ScriptLines, line: &[u8], stop: &Stop) -> bool
+    requires { stop.now.place < length lines.now }
     ensures { result ≡ one_could_lift lines.now
-        (ground_of lines.now line.now code blocks.now) left_out.now }
+        (ground_of lines.now stop.now.place line.now stop.now.code stop.now.open.items)
+        left_out.now }
 {
-    one_could_lift(lines, ground_of(lines, line, code, blocks), left_out)
+    let cause = ground_of(lines, stop.place, line, stop.code, &stop.open);
+    one_could_lift(lines, cause, left_out)
 }
 
 /// Whether a line of a script that was refused where some lines were left out hangs on these: once they are mended, it
@@ -152,9 +186,7 @@ pub fn hangs(lines: &ScriptLines, left_out: &ScriptLines, stop: &Stop) -> bool
     ensures { result ≡ hangs lines.now left_out.now stop.now }
 {
     let line = text_at(lines, stop.place);
-    line.len() > LONGEST
-        || mentions_given(left_out, line)
-        || one_lifts(lines, left_out, line, stop.code, &stop.open)
+    line.len() > LONGEST || mentions_given(left_out, line) || one_lifts(lines, left_out, line, stop)
 }
 
 /// Whether nothing is told of the lines behind a refused one: the disk or memory failed, the script draws too many

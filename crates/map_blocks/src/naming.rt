@@ -1,11 +1,11 @@
 //! The names in a line of a script: which it mentions, as `$NAME`, which it gives, and which it may be meant to give.
-ghost use Rattle.std.specs.Prelude.{◌≡◌, ◌∷◌, [], ◌<◌, ◌==◌, length, bytes_eq, option_copied, slice_index, IfSome, MatchOption};
-ghost use Rattle.std.specs.List.{slice_split};
+ghost use Rattle.std.specs.Prelude.{◌≡◌, ◌∷◌, [], ◌<◌, ◌==◌, ◌||◌, length, bytes_eq, option_copied, slice_index, IfSome, MatchOption};
+ghost use Rattle.std.specs.List.{list_all, slice_split};
 ghost use Rattle.map_script.specs.Names.{is_letter, is_script_name_byte};
 ghost use Rattle.map_script.specs.Lines.{let_words, name_in};
 ghost use Rattle.map_script.specs.Loops.{loop_words};
 ghost use Rattle.map_script.specs.Words.{text_words};
-ghost use Rattle.map_blocks.specs.Naming.{behind_dollars, front_name, gives_name, is_first_name, is_name_front, is_place_front, is_that_name, may_give, parts_left, parts_names, stands_alone};
+ghost use Rattle.map_blocks.specs.Naming.{behind_dollars, front_name, gives_name, is_bare_word, is_first_name, is_name_front, is_place_front, is_that_name, may_give, parts_left, parts_names, stands_alone};
 
 use map_script::{define_words, defined_name, first_word, let_words, loop_words};
 
@@ -82,6 +82,23 @@ pub fn is_place_front(text: &[u8]) -> bool
 {
     let name = front_name(text);
     has_at(text, name.len(), b'(') && name != b"thing".as_slice()
+}
+
+// Whether each byte of a text stands in a name, or is a dot.
+fn are_name_bytes(text: &[u8]) -> bool
+    ensures { result ≡ list_all (λ b. is_script_name_byte b || (b == 46)) text.now }
+{
+    text.iter().all(|b| is_name_byte(*b) || *b == b'.')
+}
+
+/// Whether a word is `$NAME` or `$NAME.KIND`, and no sum.
+pub fn is_bare_word(word: &[u8]) -> bool
+    ensures { result ≡ is_bare_word word.now }
+{
+    match word {
+        [b, rest @ ..] => *b == b'$' && are_name_bytes(rest),
+        [] => false,
+    }
 }
 
 // ---- Names that a line gives

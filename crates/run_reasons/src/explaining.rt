@@ -1,9 +1,9 @@
 //! Says of a line that stands in no script why it was refused, and which lines there are.
 use crate::calling::says;
-use crate::forms::{FORMS, form_near, form_of, range_at};
+use crate::forms::{form_near, form_of, range_at, text_of};
 use crate::reasons::reason_of;
 use crate::unfit::form_meant;
-use map_blocks::Stop;
+use map_blocks::{FORMS, Stop};
 use map_commands::CommandError;
 use map_script::{
     Names, ScriptLines, at_words, closes, define_words, defined_name, let_words, loop_words,
@@ -80,7 +80,7 @@ pub fn explain(alloc: Global, maps: &Maps, line: &[u8], code: u16) -> Result<Str
 fn all_forms(alloc: Global) -> Result<String, AllocError> {
     let mut told = String::new(alloc);
     for form in FORMS {
-        told.push_str(form)?;
+        told.push_str(text_of(form))?;
         told.push_str("\n")?;
     }
     told.push_str(WAYS_OUT)?;

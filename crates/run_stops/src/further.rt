@@ -1,5 +1,5 @@
 //! The lines of a script that are refused behind the first one.
-ghost use Rattle.std.specs.Prelude.{◌≡◌, ◌≤◌, ◌<◌, [], length, true, IfErr, IfOk, IfSome};
+ghost use Rattle.std.specs.Prelude.{◌≡◌, ◌≤◌, ◌<◌, ◌+◌, ◌/◌, ◌&&◌, [], length, nat_le, nat_lt, true, IfErr, IfOk, IfSome};
 ghost use Rattle.std.specs.List.{remove};
 ghost use Rattle.map_blocks.specs.Stops.{IsStopWithin};
 ghost use Rattle.map_tables.specs.Projects.{body_len, project_of};
@@ -8,7 +8,7 @@ ghost use Rattle.run_stops.specs.ToldStops.{AreFurtherTold, IsToldAmong, StopsAt
 ghost use Rattle.run_stops.specs.Telling.{PutsTold, TellsOneMore};
 
 use crate::told::stop_told;
-use map_blocks::{Stop, ends_telling, files_without, give_one_of, hangs, lines_without};
+use map_blocks::{Stop, ends_telling, files_without, hangs, lines_without};
 use map_script::{DrawError, Names, ScriptFiles, ScriptLines};
 use map_tables::Maps;
 use run_canvas::{Canvas, Draft, ScriptError};
@@ -185,19 +185,14 @@ fn telling_behind(
     })
 }
 
-// Whether a further line may be told in a round: so many have been told, so many lines may be drawn again, and what was
-// left out last gives no name that the rest gives too.
+// Whether a further line may be told in a round: so many have been told, and so many lines may be drawn again.
 fn may_go_on(telling: &Telling, round: usize) -> bool
     requires { round < 40 }
+    ensures goes_on { result ≡ (nat_lt telling.now.count 19
+        && nat_le (length telling.now.lines) (200000 / (round + 1))) }
     ensures few { result ≡ true → telling.now.count < 19 }
 {
-    if telling.count >= MOST || telling.lines.len() > MOST_LINES / (round + 1) {
-        return false;
-    }
-    match telling.left_out.len().checked_sub(1) {
-        Some(last) => !give_one_of(&telling.lines, telling.left_out.line(last).text),
-        None => true,
-    }
+    telling.count < MOST && telling.lines.len() <= MOST_LINES / (round + 1)
 }
 
 /// What tells of the lines of a script that are refused behind the one at a stop. The script is drawn again over a copy

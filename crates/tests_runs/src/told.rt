@@ -93,12 +93,32 @@ const SCRIPTS: &[(&[u8], &[u8])] = &[
     (b"thing 0 0 400 1 7\nsplit $line(300,300) 1 1", b"s:2: split $line(300,300) 1 1: 45 NothingThere\n"),
     (b"vertx 0 0\nsplit $line(300,300) 1 1", b""),
     (b"thing 0 0 400 1 7\nchange thing $thing(1,1) ANGLE=0", b""),
+    (b"vertx 0 0\nvertex $late 0\nlate = vertex 9 9", b"s:2: vertex $late 0: 22 UnknownName\n"),
+    // a number out of its range, and a sum
+    (b"h = room 0 0 64 64 0 128 FLOOR4_8 CEIL3_5 STARTAN3 160\nvertx 1 1\nchange sector $h LIGHT=300",
+        b"s:3: change sector $h LIGHT=300: 2 OutOfRange\n"),
+    (b"h = room 0 0 64 64 0 128 FLOOR4_8 CEIL3_5 STARTAN3 160\nvertx 1 1\nlet x $h.line*8\nthing $x 8 400 1 7",
+        b"s:4: thing $x 8 400 1 7: 2 OutOfRange\n"),
+    (b"h = room 0 0 64 64 0 128 FLOOR4_8 CEIL3_5 STARTAN3 160\nvertx 1 1\nthing 0 0 359+$h.vertex+1 1 7", b""),
+    (b"h = room 0 0 64 64 0 128 FLOOR4_8 CEIL3_5 STARTAN3 160\nvertx 1 1\nlet w 5\nsplit $h.north $w/2 64",
+        b"s:4: split $h.north $w/2 64: 46 BadSum\n"),
+    (b"h = room 0 0 64 64 0 128 FLOOR4_8 CEIL3_5 STARTAN3 160\nvertx 1 1\nthing (1+$h.vertex)/2 8 0 1 7", b""),
+    // exchanged letters
+    (b"thign 0 0 0 1 7\nline 0 1 1 0 0 0 -", b"s:2: line 0 1 1 0 0 0 -: 3 NoVertex\n"),
+    (b"vertex 0 0\ndorp vertex 0\nvertex 0 0", b""),
+    // a name that is given again
+    (b"let gap 8\nlet gap $step\nvertex $gap 0\nvertex 8 0\nthing 0 0 400 1 7",
+        b"s:5: thing 0 0 400 1 7: 2 OutOfRange\n"),
+    (b"wall = vertex 0 0\ndrop wall 0\nvertex 0 0\nthing 0 0 400 1 7", b"s:4: thing 0 0 400 1 7: 2 OutOfRange\n"),
+    (b"define post X\nlet X $far\nvertex $X 0\nend\npost 1\nvertex 1 0\nthing 0 0 400 1 7",
+        b"s:7: thing 0 0 400 1 7: 2 OutOfRange\n"),
     // maps
     (b"map MAP2\ndrop-map MAP03\nvertex 0 0\nvertex 0 0", b""),
     (b"vertx 0 0\ndrop-map MAP03", b"s:2: drop-map MAP03: 18 NoSuchMap\n"),
     // shapes
     (b"define post\nvertex 0 0\nend\npst\npost\npost", b""),
     (b"define post\nvertex 0 0\nend\nthing 0 0 400 1 7\npost\npost", b"s:2: vertex 0 0: 10 PlaceTaken\n"),
+    (b"define post\nvertex 0 0\nend\nthng 0 0 0 1 7\nside 0 0 - - - 0", b"s:5: side 0 0 - - - 0: 4 NoSector\n"),
     // what changes no map
     (b"hex FOO\ndrop thing 9\nline 0 1 1 0 0 0 -",
         b"s:2: drop thing 9: 7 NoThing\ns:3: line 0 1 1 0 0 0 -: 3 NoVertex\n"),
