@@ -7,8 +7,7 @@ use Rattle.lump_text.specs.Shown.{shown_lines, shown_text}
 use Rattle.map_script.specs.Includes.{include_words, only_word}
 use Rattle.map_script.specs.Scripts.{script_lines}
 use Rattle.map_script.specs.Words.{text_words}
-use Rattle.run_reasons.specs.Names.{stop_name}
-use Rattle.run_reasons.specs.Refused.{line_place, refusal_text}
+use Rattle.run_reasons.specs.Refused.{line_refusal}
 use Rattle.run_canvas.specs.declared.error.ScriptError.{ScriptError}
 use Rattle.run_canvas.specs.declared.error.ScriptError.TheVariants as cut
 use Rattle.run_edit.specs.declared.error.EditorError.TheVariants.{OutOfMemory}
@@ -99,8 +98,7 @@ ShowsTold (Err cut.WriterFailed) tells faults-old faults-new = Unit {0}
 -- these bytes tell that a line of a file was refused with this code, and some reason
 abbrev pub IsLineTold : List ℕ → ℕ × List ℕ → ℕ → List ℕ → Type 0
 IsLineTold file line code told =
-    (reason : List ℕ) × Appends (Some []) (Some told)
-    (line_place file line.0 ++ (line.1 ++ refusal_text code (stop_name code) reason))
+    (reason : List ℕ) × Appends (Some []) (Some told) (line_refusal file line code reason)
 
 -- it was told that no file can stand in the place of a line of a file, and why
 pub record TellsNoFile (left : ℕ) (file : List ℕ) (line : ℕ × List ℕ) (words : List (List ℕ))

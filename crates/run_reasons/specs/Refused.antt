@@ -4,6 +4,7 @@ use Rattle.std.specs.Prelude.{◌≡◌, ◌⊎◌, ◌<◌, ℕ, ℤ, All, if�
 use Rattle.std.specs.Fmt.{signed_decimal}
 use Rattle.std.specs.Io.KnownBytes.{Appends, Keeps}
 use Rattle.std.specs.Option.{is_some}
+use Rattle.lump_text.specs.Shown.{shown_text}
 use Rattle.map_script.specs.Ats.{at_words}
 use Rattle.map_script.specs.Lines.{command_words}
 use Rattle.map_script.specs.Loops.{loop_name}
@@ -25,10 +26,10 @@ abbrev pub refusal_text : ℕ → List ℕ → List ℕ → List ℕ
 refusal_text code name reason =
     codes ": " ++ decimal code ++ codes " " ++ name ++ 10 ∷ codes "  " ++ reason ++ 10 ∷ []
 
--- `FILE:NUMBER: TEXT: CODE NAME` about a line, and the reason in a line of its own
+-- `FILE:NUMBER: TEXT: CODE NAME` about a line, TEXT as it is shown, and the reason in a line of its own
 abbrev pub line_refusal : List ℕ → ℕ × List ℕ → ℕ → List ℕ → List ℕ
 line_refusal file line code reason =
-    line_place file line.0 ++ (line.1 ++ refusal_text code (stop_name code) reason)
+    line_place file line.0 ++ (shown_text line.1 ++ refusal_text code (stop_name code) reason)
 
 -- ---- The blocks
 

@@ -1,6 +1,7 @@
 //! Writes the lines that say which line of a script was refused, what was wrong with it, and in which blocks it stands.
 ghost use Rattle.std.specs.Prelude.{◌≡◌, ◌++◌, ℕ, List, MatchResult, Some, length, slice_get};
 ghost use Rattle.std.specs.Io.KnownBytes.{Appends};
+ghost use Rattle.lump_text.specs.Shown.{shown_text};
 ghost use Rattle.map_script.specs.Views.{seen};
 ghost use Rattle.run_reasons.specs.Refused.{TellsStop, blocks_text, line_place, refusal_text, line_refusal};
 ghost use Rattle.map_blocks.specs.Stops.{IsStopWithin};
@@ -9,6 +10,7 @@ ghost use Rattle.run_canvas.specs.declared.error.ScriptError.TheVariants.{Writer
 use crate::calling::stop_name;
 use crate::open_blocks::write_blocks;
 use crate::reasons::reason_of;
+use lump_text::write_shown;
 use map_blocks::Stop;
 use map_script::{Names, ScriptFiles, ScriptLine, ScriptLines};
 use map_tables::Maps;
@@ -45,6 +47,18 @@ pub fn write_text<W: Write>(text: &[u8], writer: &mut W) -> Result<(), ScriptErr
     }
 }
 
+// Writes the text of a line as it is shown: of more than 120 bytes the first 60, ` .. ` and the last 60.
+fn write_echo<W: Write>(text: &[u8], writer: &mut W) -> Result<(), ScriptError>
+    ensures { MatchResult result
+        (λ _. Appends (W.contents writer.old) (W.contents writer.new) (shown_text text.now))
+        (λ e. e ≡ WriterFailed) }
+{
+    match write_shown(text, writer) {
+        Ok(()) => Ok(()),
+        Err(_) => Err(ScriptError::WriterFailed),
+    }
+}
+
 // Writes the refusal's code and name, and the reason in a line of its own.
 fn write_reason<W: Write>(
     code: u16,
@@ -75,21 +89,22 @@ fn write_both<W: Write>(
     ensures { MatchResult result
         (λ _. Appends (W.contents writer.old) (W.contents writer.new)
         (line_place file.now (seen line.now).0
-        ++ ((seen line.now).1 ++ refusal_text code name.now reason.now)))
+        ++ (shown_text (seen line.now).1 ++ refusal_text code name.now reason.now)))
         (λ e. e ≡ WriterFailed) }
 {
     match write_place(file, line.number, writer) {
         Ok(()) => {}
         Err(error) => return Err(error),
     }
-    match write_text(line.text, writer) {
+    match write_echo(line.text, writer) {
         Ok(()) => {}
         Err(error) => return Err(error),
     }
     write_reason(code, name, reason, writer)
 }
 
-/// Writes which line of a file was refused, `FILE:NUMBER: TEXT: CODE NAME`, and the reason in a second line. `file` is
+/// Writes which line of a file was refused, `FILE:NUMBER: TEXT: CODE NAME`, and the reason in a second line. TEXT is as
+/// `write_shown` of lump_text shows it: of more than 120 bytes the first 60, ` .. ` and the last 60. `file` is
 /// the file's name.
 ///
 /// # Errors
