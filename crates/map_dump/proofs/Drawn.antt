@@ -1,8 +1,8 @@
 -- The lines of a dump lead from the empty project to the one that was dumped.
-use Rattle.std.proofs.Common.{◌≡◌, ◌≢◌, ℕ, zero, suc, ◌+◌, ◌<◌, ◌≤◌, Bool, true, false, ◌&&◌, not, List, [], ◌∷◌, ◌++◌, length, get_or, map, None, Ok, refl, sym, subst, ◌∙◌, ap, arith, append_assoc, nat_lt}
-use Rattle.std.specs.Prelude.{sum_by}
+use Rattle.std.proofs.Common.{◌≡◌, ◌≢◌, ℕ, zero, suc, ◌+◌, ◌<◌, ◌≤◌, Bool, true, false, ◌&&◌, not, List, [], ◌∷◌, ◌++◌, length, get_or, map, None, Ok, refl, sym, subst, ◌∙◌, ap, arith, append_assoc, length-append, nat_lt}
+use Rattle.std.specs.Prelude.{◌==◌, if◌then◌else◌, sum_by}
 use Rattle.std.specs.List.{All, AllPairs}
-use Rattle.std.proofs.lemmas.Bool.{cond-true, false_from_ne_true, le-ltb, lt-ltb}
+use Rattle.std.proofs.lemmas.Bool.{cond-true, eqb-true, false_from_ne_true, le-ltb, lt-ltb}
 use Rattle.std.proofs.lemmas.List.Sums.{position_or_len_is, sum_by-append, sum_by-cons}
 use Rattle.std.proofs.lemmas.Slice.Eq.{bytes_eq-Decides}
 use Rattle.lump_records.specs.declared.records.Name8.{Name8}
@@ -23,7 +23,7 @@ use Rattle.map_commands.specs.ProjectStep.{project_number_of}
 use Rattle.map_commands.specs.ProjectLines.{Leads, LeadsTo}
 use Rattle.map_commands.proofs.ProjectOutcomes.{one_project}
 use Rattle.map_commands.proofs.ProjectSteps.{step-accepts}
-use Rattle.map_dump.specs.Dump.{commands_from, dump_of, items_of}
+use Rattle.map_dump.specs.Dump.{commands_from, dump_of, is_map01, items_of, naming_of, selection_of}
 use Rattle.map_dump.specs.Laws.{DumpsDrawAgain, DumpsTellProjectsApart}
 use Rattle.map_dump.proofs.Fronts.{holds_at, holds_before, inside}
 use Rattle.map_dump.proofs.Items.{Draws, Draws-append, drawing, leads_items, leads_one}
@@ -62,9 +62,46 @@ rename_free m name = by (is_named name m) refl
 
 -- ---- The first map is renamed, each other is added
 
+-- it is selected if it has its name already
+leads_there : (cap : ℕ) (p : ProjectMaps) (name : Name8) (k : ℕ) → IsNamed is_marker name → project.map_number_of p name ≡ k → k < length p.maps → body_len p ≤ cap
+    → LeadsTo cap p (project_spelling (SelectMap name)) (record { maps = p.maps; current = k })
+leads_there cap p name k named at inside fits =
+    let q : ProjectMaps = record { maps = p.maps; current = k } in
+    let there : has_map p name ≡ true = ap (λ k. nat_lt k (length p.maps)) at ∙ lt-ltb k (length p.maps) inside in
+    let none : least ((16, not (has_map p name) && nat_lt 32 (length p.maps + 1)) ∷ []) ≡ None = λ i. least ((16, not (there i) && nat_lt 32 (length p.maps + 1)) ∷ []) in
+    let same = cond-true (has_map p name) p.maps (p.maps ++ with_name empty_tables name ∷ []) there in
+    let is : with_selected p name ≡ q = λ i. record { maps = same i; current = at i } in
+    let short : nat_lt cap (body_len (with_selected p name)) ≡ false = ap (λ r. nat_lt cap (body_len r)) is ∙ le-ltb cap (body_len q) fits in (
+      project_number_of p (SelectMap name),
+      record {
+        command = SelectMap name;
+        range = named;
+        line_is = refl;
+        stepped = step-accepts p (SelectMap name) cap none short ∙ ap (λ r. Ok (r, project_number_of p (SelectMap name))) is;
+      },
+    )
+
+leads_first : (cap : ℕ) (m : Tables) → WellFormed m → body_len (drawing [] m) ≤ cap → is_map01 m.name ≡ true
+    → LeadsTo cap empty_project (project_spelling (SelectMap m.name)) (drawing [] (with_name empty_tables m.name))
+leads_first cap m w fits first =
+    let named : empty_tables.name ≡ m.name = sym (λ i. record { bytes = (bytes_eq-Decides m.name.bytes empty_tables.name.bytes).0 first i }) in
+    let at : project.map_number_of empty_project m.name ≡ 0 =
+    position_or_len_is (is_named m.name) empty_project.maps 0 empty_tables (omega arith) (λ k h. absurd (omega (arith, h))) (λ h. own_name m.name empty_tables named) in
+    subst (λ (t : Tables). LeadsTo cap empty_project (project_spelling (SelectMap m.name)) (drawing [] t)) (ap (with_name empty_tables) named)
+    (leads_there cap empty_project m.name 0 w.name at (omega arith) (omega (arith, fits, sum_by-cons part_len m [], sum_by-cons part_len empty_tables [])))
+
 leads_name : (cap : ℕ) (m : Tables) → WellFormed m → body_len (drawing [] m) ≤ cap → LeadsTo cap empty_project (project_spelling (Current (Name m.name))) (drawing [] (with_name empty_tables m.name))
 leads_name cap m w fits =
     leads_one cap [] [] m empty_tables (with_name empty_tables m.name) (Name m.name) (record { range = w.name; free = refl; made = refl; short = omega arith }) (rename_free empty_tables m.name) fits
+
+leads_naming : (cap : ℕ) (m : Tables) → WellFormed m → body_len (drawing [] m) ≤ cap
+    → LeadsTo cap empty_project (project_spelling (naming_of 0 m.name)) (drawing [] (with_name empty_tables m.name))
+leads_naming cap m w fits = by (is_map01 m.name) refl
+  where
+    by : (t : Bool) → is_map01 m.name ≡ t
+        → LeadsTo cap empty_project (project_spelling (if t then SelectMap m.name else Current (Name m.name))) (drawing [] (with_name empty_tables m.name))
+    by true e = leads_first cap m w fits e
+    by false e = leads_name cap m w fits
 
 leads_new : (cap : ℕ) (p : ProjectMaps) (name : Name8) → IsNamed is_marker name → has_map p name ≡ false → length p.maps < 32 → body_len p + 18 ≤ cap
     → LeadsTo cap p (project_spelling (SelectMap name)) (record { maps = p.maps ++ with_name empty_tables name ∷ []; current = length p.maps })
@@ -93,13 +130,15 @@ front_len all front back m e =
     let whole : sum_by part_len all ≡ sum_by part_len (front ++ m ∷ back) = ap (sum_by part_len) e in
     omega (arith, whole, sum_by-append part_len front (m ∷ back), sum_by-cons part_len m back, sum_by-append part_len front (m ∷ []), sum_by-cons part_len m [])
 
--- all maps are drawn, and some map is current
+-- all maps are drawn, and the last one is current
 abbrev Reaches : ℕ → ProjectMaps → List ProjectCommand → List Tables → Type 0
-Reaches cap old cs maps = (n : ℕ) × Draws cap old cs (record { maps = maps; current = n })
+Reaches cap old cs maps = (n : ℕ) × (n + 1 ≡ length maps) × Draws cap old cs (record { maps = maps; current = n })
 
 leads_maps : (cap : ℕ) (p : ProjectMaps) (k : ℕ) (done : List Tables) (m : Tables) (ms : List Tables) → WellFormedProject p → body_len p ≤ cap → p.maps ≡ done ++ m ∷ ms
     → Reaches cap (drawing done m) (commands_from (suc k) ms) p.maps
-leads_maps cap p k done m [] w fits e = (length done, λ i. record { maps = e i; current = length done })
+leads_maps cap p k done m [] w fits e =
+    let last : length done + 1 ≡ length p.maps = let same = ap length e in omega (arith, same, length-append done (m ∷ [])) in
+    (length done, last, λ i. record { maps = e i; current = length done })
 leads_maps cap p k done m (x ∷ ms) w fits e =
     let front = done ++ m ∷ [] in
     let next : p.maps ≡ front ++ x ∷ ms = e ∙ sym (append_assoc done (m ∷ []) (x ∷ ms)) in
@@ -111,12 +150,13 @@ leads_maps cap p k done m (x ∷ ms) w fits e =
     let short : body_len (drawing done m) + 18 ≤ cap = omega (arith, part, sum_by-append part_len front (x ∷ []), sum_by-cons part_len x []) in
     let rest = leads_maps cap p (suc k) front x ms w fits next in (
       rest.0,
+      rest.1,
       (
         drawing front (with_name empty_tables x.name),
         leads_new cap (drawing done m) x.name fine.name new room short,
         Draws-append cap (drawing front (with_name empty_tables x.name)) (drawing front x)
             (record { maps = p.maps; current = rest.0 }) (map Current (items_of x)) (commands_from (suc (suc k)) ms)
-            (leads_items cap front [] x fine part) rest.1,
+            (leads_items cap front [] x fine part) rest.2,
       ),
     )
 
@@ -131,19 +171,19 @@ leads_current cap p n w fits =
     position_or_len_is (is_named name) p.maps p.current empty_tables (omega (arith, w.current))
     (λ k h. other_name name (get_or p.maps k empty_tables) (w.names k p.current empty_tables h w.current))
     (λ h. own_name name (get_or p.maps p.current empty_tables) refl) in
-    let there : has_map q name ≡ true = ap (λ k. nat_lt k (length p.maps)) at ∙ lt-ltb p.current (length p.maps) w.current in
-    let none : least ((16, not (has_map q name) && nat_lt 32 (length p.maps + 1)) ∷ []) ≡ None = λ i. least ((16, not (there i) && nat_lt 32 (length p.maps + 1)) ∷ []) in
-    let same = cond-true (has_map q name) p.maps (p.maps ++ with_name empty_tables name ∷ []) there in
-    let is : with_selected q name ≡ p = λ i. record { maps = same i; current = at i } in
-    let short : nat_lt cap (body_len (with_selected q name)) ≡ false = ap (λ r. nat_lt cap (body_len r)) is ∙ le-ltb cap (body_len p) fits in (
-      project_number_of q (SelectMap name),
-      record {
-        command = SelectMap name;
-        range = (w.maps p.current empty_tables w.current).name;
-        line_is = refl;
-        stepped = step-accepts q (SelectMap name) cap none short ∙ ap (λ r. Ok (r, project_number_of q (SelectMap name))) is;
-      },
-    )
+    leads_there cap q name p.current (w.maps p.current empty_tables w.current).name at w.current fits
+
+-- behind the last map, unless it is that one
+selects : (cap : ℕ) (p : ProjectMaps) (n : ℕ) → n + 1 ≡ length p.maps → WellFormedProject p → body_len p ≤ cap
+    → Draws cap (record { maps = p.maps; current = n }) (selection_of p) p
+selects cap p n last w fits = by (p.current + 1 == length p.maps) refl
+  where
+    by : (t : Bool) → (p.current + 1 == length p.maps) ≡ t
+        → Draws cap (record { maps = p.maps; current = n }) (if t then [] else SelectMap (current_map p).name ∷ []) p
+    by true e =
+        let here : p.current ≡ n = let is = eqb-true (p.current + 1) (length p.maps) e in omega (arith, last, is) in
+        λ i. record { maps = p.maps; current = here i }
+    by false e = (p, leads_current cap p n w fits, refl)
 
 -- ---- All lines
 
@@ -154,12 +194,13 @@ draws_maps cap p m ms w fits e =
     let part : body_len (drawing [] m) ≤ cap = omega (arith, fits, front_len p.maps [] ms m e) in
     let rest = leads_maps cap p 0 [] m ms w fits e in (
       rest.0,
+      rest.1,
       (
         drawing [] (with_name empty_tables m.name),
-        leads_name cap m fine part,
+        leads_naming cap m fine part,
         Draws-append cap (drawing [] (with_name empty_tables m.name)) (drawing [] m)
             (record { maps = p.maps; current = rest.0 }) (map Current (items_of m)) (commands_from 1 ms)
-            (leads_items cap [] [] m fine part) rest.1,
+            (leads_items cap [] [] m fine part) rest.2,
       ),
     )
 
@@ -171,7 +212,7 @@ pub draws_again : DumpsDrawAgain
 draws_again p w cap fits =
     let all = draws_all cap p p.maps refl w fits in
     let q : ProjectMaps = record { maps = p.maps; current = all.0 } in
-    Draws-append cap empty_project q p (commands_from 0 p.maps) (SelectMap (current_map p).name ∷ []) all.1 (p, leads_current cap p all.0 w fits, refl)
+    Draws-append cap empty_project q p (commands_from 0 p.maps) (selection_of p) all.2 (selects cap p all.0 all.1 w fits)
 
 -- equal dumps lead to the same project
 pub tells_apart : DumpsTellProjectsApart

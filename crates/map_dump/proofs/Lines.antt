@@ -1,6 +1,6 @@
 -- The text of a dump is cut into its lines at each LF, and into no others.
 use Rattle.std.proofs.Common.{◌≡◌, ◌∙◌, ℕ, suc, zero, Bool, true, false, cond, ◌&&◌, ◌||◌, List, [], ◌∷◌, ◌++◌, length, Option, Some, None, refl, sym, ap, subst, arith, nat_eq, map}
-use Rattle.std.specs.Prelude.{bytes_eq, codes, nat_lt, not}
+use Rattle.std.specs.Prelude.{◌+◌, ◌==◌, bytes_eq, codes, if◌then◌else◌, nat_lt, not}
 use Rattle.std.specs.List.{All, join_with_byte, list_all}
 use Rattle.std.proofs.lemmas.Bool.{eqb-true}
 use Rattle.std.proofs.lemmas.List.{map-append}
@@ -22,7 +22,7 @@ use Rattle.map_commands.specs.ProjectCommands.{project_spelling}
 use Rattle.map_commands.specs.Spelling.{line_words, sector_words, side_words, thing_words, vertex_words}
 use Rattle.map_commands.specs.Words.{is_natural, is_numeral, is_printable, is_word}
 use Rattle.map_commands.specs.declared.command.Command.{Command}
-use Rattle.map_commands.specs.declared.command.Command.TheVariants.{Edit}
+use Rattle.map_commands.specs.declared.command.Command.TheVariants.{Edit, Name}
 use Rattle.map_tables.specs.declared.edit.Edit.TheVariants as edit
 use Rattle.map_tables.specs.declared.edit.Item.TheVariants as item
 use Rattle.map_commands.specs.declared.project.command.ProjectCommand.{ProjectCommand}
@@ -32,7 +32,7 @@ use Rattle.map_commands.proofs.Numerals.{both}
 use Rattle.map_commands.proofs.Padding.{apart}
 use Rattle.map_commands.proofs.RecordWords.{line-ok, sector-ok, side-ok, thing-ok, vertex-ok}
 use Rattle.map_commands.proofs.Wordings.{all-of, both-back}
-use Rattle.map_dump.specs.Dump.{commands_from, commands_of_map, dump_of, items_of, map_dump_of, naming_of}
+use Rattle.map_dump.specs.Dump.{commands_from, commands_of_map, dump_of, items_of, is_map01, map_dump_of, naming_of, selection_of}
 use Rattle.map_dump.specs.Laws.{DumpsAreCutIntoLines, HoldsItsLines}
 use Rattle.map_dump.specs.MapDumps.{MapDumpsAreCutIntoLines, map_dumps_of}
 use Rattle.map_dump.specs.Texts.{with_lf, is_one_line, text_of}
@@ -133,7 +133,11 @@ name-inside : (name : Name8) → IsNamed is_marker name → is_one_line (name_te
 name-inside name h = place-line (Named is_marker) (name_text name) (marker-ok name h).none
 
 naming-line : (n : ℕ) (name : Name8) → IsNamed is_marker name → is_one_line (project_spelling (naming_of n name)) ≡ true
-naming-line zero name h = join-line (codes "name" ∷ name_text name ∷ []) (both-back (is_one_line (name_text name)) true (name-inside name h) refl)
+naming-line zero name h = by (is_map01 name)
+  where
+    by : (t : Bool) → is_one_line (project_spelling (if t then SelectMap name else Current (Name name))) ≡ true
+    by true = join-line (codes "map" ∷ name_text name ∷ []) (both-back (is_one_line (name_text name)) true (name-inside name h) refl)
+    by false = join-line (codes "name" ∷ name_text name ∷ []) (both-back (is_one_line (name_text name)) true (name-inside name h) refl)
 naming-line (suc n) name h = join-line (codes "map" ∷ name_text name ∷ []) (both-back (is_one_line (name_text name)) true (name-inside name h) refl)
 
 -- ---- All lines of a dump
@@ -179,9 +183,11 @@ maps-lines n (m ∷ ms) all =
     (maps-lines (suc n) ms (λ k d h. all (suc k) d (omega arith)))
 
 dump-lines : (p : ProjectMaps) → WellFormedProject p → list_all is_one_line (dump_of p) ≡ true
-dump-lines p w =
-    AreLines-append (commands_from 0 p.maps) (SelectMap (current_map p).name ∷ []) (maps-lines 0 p.maps w.maps)
-    (both-back (is_one_line (project_spelling (naming_of 1 (current_map p).name))) true (naming-line 1 (current_map p).name (w.maps p.current _ w.current).name) refl)
+dump-lines p w = AreLines-append (commands_from 0 p.maps) (selection_of p) (maps-lines 0 p.maps w.maps) (by (p.current + 1 == length p.maps))
+  where
+    by : (t : Bool) → AreLines (if t then [] else SelectMap (current_map p).name ∷ [])
+    by true = refl
+    by false = both-back (is_one_line (project_spelling (naming_of 1 (current_map p).name))) true (naming-line 1 (current_map p).name (w.maps p.current _ w.current).name) refl
 
 -- ---- One text is cut in one way
 

@@ -1,9 +1,9 @@
 -- The lines that draw a project's maps again.
-use Rattle.std.specs.Prelude.{ℕ, zero, suc, List, [], ◌∷◌, ◌++◌, map, flat_map}
+use Rattle.std.specs.Prelude.{ℕ, zero, suc, ◌+◌, ◌==◌, Bool, if◌then◌else◌, List, [], ◌∷◌, ◌++◌, bytes_eq, length, map, flat_map}
 use Rattle.lump_records.specs.declared.records.Name8.{Name8}
 use Rattle.map_tables.specs.declared.kind.Kind.{Kind}
 use Rattle.map_tables.specs.declared.kind.Kind.TheVariants as kind
-use Rattle.map_tables.specs.Tables.{Tables}
+use Rattle.map_tables.specs.Tables.{Tables, empty_tables}
 use Rattle.map_tables.specs.Projects.{ProjectMaps, current_map}
 use Rattle.map_commands.specs.Grammar.{kinds}
 use Rattle.map_commands.specs.ProjectCommands.{project_spelling}
@@ -14,10 +14,14 @@ use Rattle.map_tables.specs.declared.edit.Item.TheVariants as item
 use Rattle.map_commands.specs.declared.project.command.ProjectCommand.{ProjectCommand}
 use Rattle.map_commands.specs.declared.project.command.ProjectCommand.TheVariants.{Current, SelectMap}
 
--- the command that gives the map with a number its name: the first map exists and is renamed, each other one is
--- added
+-- the name is MAP01, that of the only map of the empty project
+abbrev pub is_map01 : Name8 → Bool
+is_map01 name = bytes_eq name.bytes empty_tables.name.bytes
+
+-- the command that gives the map with a number its name: the first one is there as MAP01, so it is selected if
+-- that is its name, and else renamed; each other one is added
 abbrev pub naming_of : ℕ → Name8 → ProjectCommand
-naming_of zero name = Current (Name name)
+naming_of zero name = if is_map01 name then SelectMap name else Current (Name name)
 naming_of (suc n) name = SelectMap name
 
 -- the commands that add the items of a table
@@ -45,9 +49,15 @@ abbrev pub commands_from : ℕ → List Tables → List ProjectCommand
 commands_from n [] = []
 commands_from n (m ∷ ms) = commands_of_map n m ++ commands_from (suc n) ms
 
--- the commands that draw all maps, and the command that selects the project's current map
+-- the command that selects the project's current map, unless that is the last one, which the commands that draw
+-- it leave current
+abbrev pub selection_of : ProjectMaps → List ProjectCommand
+selection_of p =
+    if p.current + 1 == length p.maps then [] else SelectMap (current_map p).name ∷ []
+
+-- the commands that draw all maps, and select the current one
 abbrev pub commands_of : ProjectMaps → List ProjectCommand
-commands_of p = commands_from 0 p.maps ++ SelectMap (current_map p).name ∷ []
+commands_of p = commands_from 0 p.maps ++ selection_of p
 
 -- the dump: the line of each of these commands
 abbrev pub dump_of : ProjectMaps → List (List ℕ)

@@ -4,10 +4,10 @@ use Rattle.lump_records.specs.declared.records.Name8.{Name8}
 use Rattle.map_tables.specs.Tables.{Tables, empty_tables}
 use Rattle.map_tables.specs.WellFormed.{WellFormed}
 use Rattle.map_tables.specs.Edits.{with_name}
-use Rattle.map_tables.specs.Projects.{ProjectMaps, body_len, current_map, empty_project, is_named, map_limit, with_current}
+use Rattle.map_tables.specs.Projects.{ProjectMaps, body_len, current_map, empty_project, map_limit, with_current}
 use Rattle.map_tables.specs.ProjectEdits.{with_selected}
 use Rattle.map_commands.specs.ProjectLines.{Leads}
-use Rattle.map_dump.specs.Dump.{map_dump_of}
+use Rattle.map_dump.specs.Dump.{is_map01, map_dump_of}
 use Rattle.map_dump.specs.Laws.{HoldsItsLines}
 
 -- ---- one map
@@ -50,7 +50,7 @@ map_dumps_of ms = flat_map map_dump_of ms
 
 -- the map's name is MAP01, as in the empty project
 abbrev pub has_first_name : Tables → Bool
-has_first_name m = is_named empty_tables.name m
+has_first_name m = is_map01 m.name
 
 -- the maps of a project in which these were drawn: MAP01, which is empty if none of these has this name, and then
 -- the others in their order

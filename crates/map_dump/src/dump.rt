@@ -2,7 +2,7 @@
 ghost use Rattle.std.specs.Prelude.{◌≡◌, ◌∷◌, [], Some, slice_get};
 ghost use Rattle.map_commands.specs.declared.command.Command.{Command};
 ghost use Rattle.map_commands.specs.declared.project.command.ProjectCommand.TheVariants.{Current, SelectMap};
-ghost use Rattle.map_dump.specs.Dump.{additions_of, commands_from, commands_of_map, dump_of, edits_of, items_of, map_dump_of};
+ghost use Rattle.map_dump.specs.Dump.{additions_of, commands_from, commands_of_map, dump_of, edits_of, items_of, map_dump_of, selection_of};
 ghost use Rattle.map_dump.specs.Texts.{Writes, WritesLines};
 ghost use Rattle.lump_records.specs.Names.{IsNamed, is_marker};
 ghost use Rattle.map_tables.specs.Projects.{WellFormedProject, project_of};
@@ -119,11 +119,23 @@ fn write_maps<W: Write>(alloc: Global, maps: &Maps, writer: &mut W) -> Result<()
 }
 
 // Writes the line that makes the map with a name current.
-fn write_selection<W: Write>(alloc: Global, name: Name8, writer: &mut W) -> Result<(), DumpError>
+fn write_name<W: Write>(alloc: Global, name: Name8, writer: &mut W) -> Result<(), DumpError>
     requires { IsNamed is_marker name }
     ensures { Writes result (SelectMap name ∷ []) (W.contents writer.old) (W.contents writer.new) }
 {
     write_command(alloc, &ProjectCommand::SelectMap(name), writer)
+}
+
+// Writes the line that makes the current map current, unless it is the last one.
+fn write_selection<W: Write>(alloc: Global, maps: &Maps, writer: &mut W) -> Result<(), DumpError>
+    ensures { Writes result (selection_of (project_of maps.now)) (W.contents writer.old)
+        (W.contents writer.new) }
+{
+    if maps.current_number() + 1 == maps.len() {
+        Ok(())
+    } else {
+        write_name(alloc, maps.current().name(), writer)
+    }
 }
 
 /// Writes the lines that draw the maps again from the empty project, each ended by LF. Each line is written by one
@@ -138,7 +150,7 @@ pub fn write_dump<W: Write>(alloc: Global, maps: &Maps, writer: &mut W) -> Resul
         (W.contents writer.new) }
 {
     match write_maps(alloc, maps, writer) {
-        Ok(()) => write_selection(alloc, maps.current().name(), writer),
+        Ok(()) => write_selection(alloc, maps, writer),
         Err(error) => Err(error),
     }
 }

@@ -2,7 +2,7 @@
 ghost use Rattle.std.specs.Prelude.{◌≡◌, ◌∷◌, [], IfOk, IfSome, IsOkUnless, slice_get};
 ghost use Rattle.map_commands.specs.Step as of_one_map;
 ghost use Rattle.map_commands.specs.ProjectCommands.{InProjectRange, project_spelling};
-ghost use Rattle.map_dump.specs.Dump.{additions_of, naming_of};
+ghost use Rattle.map_dump.specs.Dump.{additions_of, is_map01, naming_of};
 ghost use Rattle.map_dump.specs.Texts.{Writes, with_lf};
 ghost use Rattle.lump_records.specs.Names.{IsNamed, is_marker};
 
@@ -13,6 +13,13 @@ use map_tables::{Edit, Item, Kind, Map};
 use std::alloc::Global;
 use std::io::Write;
 
+// Whether a name is that of the only map of a new project.
+fn is_map01(name: Name8) -> bool
+    ensures { result ≡ is_map01 name }
+{
+    name.bytes.as_slice() == b"MAP01\0\0\0".as_slice()
+}
+
 /// The command that gives the map with a number its name.
 pub fn naming(n: u32, name: Name8) -> ProjectCommand
     requires { IsNamed is_marker name }
@@ -20,7 +27,11 @@ pub fn naming(n: u32, name: Name8) -> ProjectCommand
     ensures range { InProjectRange result }
 {
     if n == 0 {
-        ProjectCommand::Current(Command::Name(name))
+        if is_map01(name) {
+            ProjectCommand::SelectMap(name)
+        } else {
+            ProjectCommand::Current(Command::Name(name))
+        }
     } else {
         ProjectCommand::SelectMap(name)
     }

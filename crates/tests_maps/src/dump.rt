@@ -3,7 +3,6 @@
 use crate::drawing::{ROOM, drawn};
 use crate::expect::same;
 use map_dump::{DumpError, write_dump, write_map_dump};
-use map_tables::Maps;
 use std::io;
 use std::io::Write;
 use std::test::Fail;
@@ -97,15 +96,16 @@ fn writes_each_map_alone(rt: HostRuntime) -> Result<(), Fail> {
     Ok(())
 }
 
-// The dump of an empty project has two lines, of 11 and 10 bytes. A writer with room for the first one only fails at
+// The dump of a vertex in MAP01 has two lines, of 10 and 11 bytes. A writer with room for the first one only fails at
 // the second.
 #[test]
-fn tells_of_a_full_writer(rt: HostRuntime) {
-    let maps = Maps::new(rt.alloc());
-    let mut writer = Full { room: 11 };
+fn tells_of_a_full_writer(rt: HostRuntime) -> Result<(), Fail> {
+    let maps = drawn(rt.alloc(), &[b"vertex 0 0".as_slice()])?;
+    let mut writer = Full { room: 10 };
     let told = write_dump(rt.alloc(), &maps, &mut writer);
     same(&rt, &told, &Err(DumpError::WriterFailed));
     same(&rt, &writer.room, &0);
     same(&rt, &DumpError::WriterFailed.code(), &38);
     same(&rt, &DumpError::OutOfMemory.code(), &31);
+    Ok(())
 }

@@ -68,7 +68,7 @@ const FILE_ROWS: &[Row] = &[
         "dump",
         b"",
         0,
-        b"name MAP01\nvertex 0 0\nvertex 128 0\nmap MAP01\n",
+        b"map MAP01\nvertex 0 0\nvertex 128 0\n",
         b"",
     ),
     (
@@ -82,7 +82,7 @@ const FILE_ROWS: &[Row] = &[
         "dump",
         b"",
         0,
-        b"name MAP01\nvertex 0 0\nvertex 128 0\nmap MAP02\nmap MAP02\n",
+        b"map MAP01\nvertex 0 0\nvertex 128 0\nmap MAP02\n",
         b"",
     ),
     (
