@@ -11,6 +11,9 @@ import time
 
 TOP = os.path.dirname(os.path.dirname(os.path.abspath(__file__)))
 
+# What a prover takes of the memory at most, in bytes: that of the tests of tests_store took 4.1 GB.
+MOST = 4_500_000_000
+
 # The proved program, and the checksum of what it was built from.
 PROGRAM = f"{TOP}/bin/leveled"
 SUM = f"{TOP}/bin/leveled.sum"
@@ -169,15 +172,24 @@ def tell(lines, proved, kept, tries, edits, began):
     print("; ".join(parts), flush=True)
 
 
+def lanes():
+    """Returns how many provers may run side by side: one a processor, as many as the free memory holds."""
+    with open("/proc/meminfo", encoding="ascii") as file:
+        free = 1024 * int(re.search(r"MemAvailable:\s+(\d+)", file.read())[1])
+    return max(1, min(len(os.sched_getaffinity(0)), free // MOST))
+
+
 def run_gate(words, lines, folder=TOP, is_told=True, watch=None):
     """Runs `rt ci` with these options in a folder, prints how far it is over these crates, and returns its status and lines.
 
-    If `is_told`, prints each of its lines too. Meanwhile another thread calls `watch` with the process.
+    If `is_told`, prints each of its lines too. Meanwhile another thread calls `watch` with the process. Unless RT_JOBS says
+    how many provers run side by side, `lanes` does: `rt ci` plans with several times the memory that they take here.
     """
     began, proved, kept, tries, said = time.monotonic(), set(), set(), [], []
     edits = {name: wrong_bodies(name, folder) for name in lines}
     tell(lines, proved, kept, tries, edits, began)
-    with subprocess.Popen(["rt", "ci", *words], cwd=folder, stdout=subprocess.PIPE, text=True, errors="replace") as gate:
+    env = {"RT_JOBS": str(lanes()), **os.environ}
+    with subprocess.Popen(["rt", "ci", *words], cwd=folder, env=env, stdout=subprocess.PIPE, text=True, errors="replace") as gate:
         watcher = threading.Thread(target=watch or (lambda _: None), args=(gate,))
         watcher.start()
         for line in gate.stdout:
