@@ -1,5 +1,4 @@
 mod DumpedLemmas
-mod Rebuilding
 mod Scripted
 mod SourceDone
 mod Sources

@@ -12,7 +12,7 @@ use Rattle.run_edit.specs.Editing.{told_of}
 use Rattle.cli_requests.specs.LevelNames.{IsListed}
 use Rattle.cli_program.specs.SourceDeeds.{IsDoneWithSome}
 use Rattle.cli_print.specs.Reading.{turns}
-use Rattle.cli_program.specs.Rebuilding.{IsRebuiltInto}
+use Rattle.cli_rebuild.specs.Rebuilding.{IsRebuiltInto}
 use Rattle.cli_requests.specs.Salvaging.{IsSalvagedInto}
 use Rattle.cli_refusals.specs.Refusals.{IsOfOpening}
 use Rattle.run_edit.specs.Runs.{Exchange, IsTrace, Ran}

@@ -1,7 +1,6 @@
 pub mod Deeds
 pub mod Kinds
 pub mod Notes
-pub mod Rebuilding
 pub mod SomeSource
 pub mod SourceDeeds
 pub mod Typed

@@ -1,6 +1,6 @@
 -- What is told on standard error that is no refusal (docs/COMMANDS.md, "The program").
 use Rattle.std.specs.Prelude.{◌≡◌, ℕ, Option, Result, Ok, List, map, string_bytes}
-use Rattle.cli_program.specs.Rebuilding.{IsRebuiltAt}
+use Rattle.cli_rebuild.specs.Rebuilding.{IsRebuiltAt}
 use Rattle.cli_program.specs.SourceDeeds.{IsDoneTelling}
 use Rattle.cli_refusals.specs.declared.refusal.Refusal.{Refusal}
 use Rattle.cli_words.specs.declared.asked.Request.{Request}

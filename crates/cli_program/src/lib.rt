@@ -7,8 +7,6 @@ mod over_input;
 mod over_script;
 mod over_source;
 mod program;
-mod rebuild_notes;
-mod rebuild_request;
 mod typed;
 
 pub use program::perform;

@@ -1,6 +1,6 @@
 use Rattle.std.proofs.Common.{List, ℕ, ap, map, string_bytes, subst}
 use Rattle.std.proofs.KnownBytes.{Keeps-refl}
-use Rattle.cli_program.specs.Rebuilding.{IsRebuiltAt}
+use Rattle.cli_rebuild.specs.Rebuilding.{IsRebuiltAt}
 use Rattle.cli_program.proofs.Sources.{drawn_into_as, tried_as, tried_onto_as}
 use Rattle.cli_program.proofs.SourceDone.{noted_with, performed_with, quiet_with}
 use Rattle.cli_program.proofs.program.done.Goals as goal

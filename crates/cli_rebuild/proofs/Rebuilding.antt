@@ -13,7 +13,7 @@ use Rattle.lump_records.specs.declared.records.Name8.{Name8}
 use Rattle.cli_print.specs.ShownNames.{shown}
 use Rattle.cli_sources.proofs.Opened.{unread_of}
 use Rattle.cli_sources.specs.Unread.{OverWadTold}
-use Rattle.cli_program.specs.Rebuilding.{IsMadeFrom, IsPutInto, IsRebuiltAt, IsRebuiltOf, IsToldOf, MakesNone, PutsNone, fate_text, kept_line, kept_fault_lines, kept_notes, kept_of, left_as_text, made_text, status_rebuilt}
+use Rattle.cli_rebuild.specs.Rebuilding.{IsMadeFrom, IsPutInto, IsRebuiltAt, IsRebuiltOf, IsToldOf, MakesNone, PutsNone, fate_text, kept_line, kept_fault_lines, kept_notes, kept_of, left_as_text, made_text, status_rebuilt}
 use Rattle.run_edit.specs.declared.error.EditorError.TheVariants.{WriterFailed}
 use Rattle.wad_file.specs.Lumps.{IsWadOf, Lump, wad_of, wad_size}
 use Rattle.wad_rebuild.specs.Rebuilt.{IsFate, IsRebuilt, IsRebuiltAs, greatest_size, kept_in, rebuilt_lumps}

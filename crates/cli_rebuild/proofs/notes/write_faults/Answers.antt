@@ -1,7 +1,7 @@
 use Rattle.std.proofs.Common.{refl}
-use Rattle.cli_program.specs.Rebuilding.{kept_line}
-use Rattle.cli_program.proofs.Rebuilding.{texts_more}
-use Rattle.cli_program.proofs.rebuild_notes.write_faults.Goals as goal
+use Rattle.cli_rebuild.specs.Rebuilding.{kept_line}
+use Rattle.cli_rebuild.proofs.Rebuilding.{texts_more}
+use Rattle.cli_rebuild.proofs.notes.write_faults.Goals as goal
 
 pub loop-fault-preserved : goal.loop-fault-preserved
 loop-fault-preserved g c =

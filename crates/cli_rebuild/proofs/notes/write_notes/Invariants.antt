@@ -1,7 +1,7 @@
 use Rattle.std.proofs.Common.{take}
 use Rattle.std.specs.Io.KnownBytes.{Appends}
-use Rattle.cli_program.specs.Rebuilding.{kept_notes}
-use Rattle.cli_program.proofs.rebuild_notes.write_notes.Given as goal
+use Rattle.cli_rebuild.specs.Rebuilding.{kept_notes}
+use Rattle.cli_rebuild.proofs.notes.write_notes.Given as goal
 
 -- the faults of the levels so far have been told
 abbrev pub invariant-loop-level : goal.invariant-loop-level

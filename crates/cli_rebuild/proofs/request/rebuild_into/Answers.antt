@@ -1,8 +1,8 @@
 use Rattle.std.proofs.Common.{List, subst}
 use Rattle.std.specs.Prelude.{map, string_bytes}
 use Rattle.wad_rebuild.specs.declared.levels.RebuiltLevel.{RebuiltLevel}
-use Rattle.cli_program.proofs.Rebuilding.{IsTold, rebuilt_told}
-use Rattle.cli_program.proofs.rebuild_request.rebuild_into.Goals as goal
+use Rattle.cli_rebuild.proofs.Rebuilding.{IsTold, rebuilt_told}
+use Rattle.cli_rebuild.proofs.request.rebuild_into.Goals as goal
 
 pub returns-in-Ok-clause-rebuilt : goal.returns-in-Ok-clause-rebuilt
 returns-in-Ok-clause-rebuilt g c =

@@ -1,8 +1,8 @@
 use Rattle.std.proofs.Common.{take}
 use Rattle.std.specs.Prelude.{flat_map}
 use Rattle.std.specs.Io.KnownBytes.{Appends}
-use Rattle.cli_program.specs.Rebuilding.{kept_line}
-use Rattle.cli_program.proofs.rebuild_notes.write_faults.Given as goal
+use Rattle.cli_rebuild.specs.Rebuilding.{kept_line}
+use Rattle.cli_rebuild.proofs.notes.write_faults.Given as goal
 
 -- the faults so far have been told
 abbrev pub invariant-loop-fault : goal.invariant-loop-fault

@@ -3,7 +3,7 @@
 ghost use Rattle.std.specs.Prelude.{◌≡◌, MatchResult, count_by, flat_map};
 ghost use Rattle.std.specs.Io.KnownBytes.{Appends};
 ghost use Rattle.run_edit.specs.declared.error.EditorError.TheVariants.{WriterFailed};
-ghost use Rattle.cli_program.specs.Rebuilding.{kept_line, kept_notes, kept_of, was_left, was_made};
+ghost use Rattle.cli_rebuild.specs.Rebuilding.{kept_line, kept_notes, kept_of, was_left, was_made};
 
 use cli_print::write_shown;
 use lump_records::Name8;

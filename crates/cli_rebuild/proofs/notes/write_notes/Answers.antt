@@ -2,9 +2,9 @@ use Rattle.std.proofs.Common.{List, subst}
 use Rattle.std.specs.Prelude.{flat_map}
 use Rattle.std.specs.Io.KnownBytes.{Appends}
 use Rattle.wad_rebuild.specs.declared.kept.KeptFault.{KeptFault}
-use Rattle.cli_program.specs.Rebuilding.{kept_line, kept_of}
-use Rattle.cli_program.proofs.Rebuilding.{texts_more}
-use Rattle.cli_program.proofs.rebuild_notes.write_notes.Goals as goal
+use Rattle.cli_rebuild.specs.Rebuilding.{kept_line, kept_of}
+use Rattle.cli_rebuild.proofs.Rebuilding.{texts_more}
+use Rattle.cli_rebuild.proofs.notes.write_notes.Goals as goal
 
 pub loop-level-preserved : goal.loop-level-preserved
 loop-level-preserved g c =

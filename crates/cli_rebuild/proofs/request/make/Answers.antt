@@ -1,8 +1,8 @@
 use Rattle.std.proofs.Common.{List, ℕ, map, string_bytes, subst, sym}
 use Rattle.wad_rebuild.specs.Whole.{AreReady}
-use Rattle.cli_program.specs.Rebuilding.{IsPutInto, PutsNone}
-use Rattle.cli_program.proofs.Rebuilding.{made_from, makes_none}
-use Rattle.cli_program.proofs.rebuild_request.make.Goals as goal
+use Rattle.cli_rebuild.specs.Rebuilding.{IsPutInto, PutsNone}
+use Rattle.cli_rebuild.proofs.Rebuilding.{made_from, makes_none}
+use Rattle.cli_rebuild.proofs.request.make.Goals as goal
 
 pub put_rebuilt-requires : goal.put_rebuilt-requires
 put_rebuilt-requires g c =

@@ -7,10 +7,10 @@ ghost use Rattle.wad_file.specs.Lumps.{IsWadOf, wad_of, wad_size};
 ghost use Rattle.wad_rebuild.specs.Whole.{AreReady};
 ghost use Rattle.run_edit.specs.declared.error.EditorError.TheVariants.{WriterFailed};
 ghost use Rattle.cli_sources.specs.Unread.{OverWadTold};
-ghost use Rattle.cli_program.specs.Rebuilding.{IsMadeFrom, IsPutInto, IsRebuiltAt, IsRebuiltOf, IsToldOf, MakesNone, PutsNone, fate_text, fate_texts, items_text, kept_notes, left_as_text, made_text, rebuilt_text, refusal_for, status_rebuilt};
+ghost use Rattle.cli_rebuild.specs.Rebuilding.{IsMadeFrom, IsPutInto, IsRebuiltAt, IsRebuiltOf, IsToldOf, MakesNone, PutsNone, fate_text, fate_texts, items_text, kept_notes, left_as_text, made_text, rebuilt_text, refusal_for, status_rebuilt};
 ghost use Rattle.cli_refusals.specs.declared.refusal.Refusal.{Refusal};
 
-use crate::rebuild_notes::{left_count, made_count, write_notes};
+use crate::notes::{left_count, made_count, write_notes};
 use cli_files::{Cause, Form, Hold, NewFile, Noted, open_new_of};
 use cli_print::{TURNS, read_wad, write_shown};
 use cli_refusals::{Causes, Refusal, status_told};

@@ -2,8 +2,8 @@ use Rattle.std.proofs.Common.{List, subst}
 use Rattle.cli_files.specs.NewFile.{file_of}
 use Rattle.wad_rebuild.specs.Whole.{IsListOf}
 use Rattle.wad_rebuild.specs.declared.levels.RebuiltLevel.{RebuiltLevel}
-use Rattle.cli_program.proofs.Rebuilding.{put_into}
-use Rattle.cli_program.proofs.rebuild_request.put_rebuilt.Goals as goal
+use Rattle.cli_rebuild.proofs.Rebuilding.{put_into}
+use Rattle.cli_rebuild.proofs.request.put_rebuilt.Goals as goal
 
 pub returns-in-Ok-put_wad : goal.returns-in-Ok-put_wad
 returns-in-Ok-put_wad g c =
