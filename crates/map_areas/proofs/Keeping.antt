@@ -1,5 +1,6 @@
 -- What commands keep of a map, one after another.
-use Rattle.std.proofs.Common.{List, [], ◌∷◌, ◌++◌, refl, sym, ap, ◌∙◌, subst, append_assoc, append-nil}
+use Rattle.std.proofs.Common.{All, List, [], ◌∷◌, ◌++◌, refl, sym, ap, ◌∙◌, subst, append_assoc, append-nil}
+use Rattle.std.proofs.lemmas.List.Elements.{All-head, All-tail}
 use Rattle.map_tables.specs.Edits.{after_edit}
 use Rattle.map_tables.specs.Tables.{Tables}
 use Rattle.map_tables.specs.declared.edit.Edit.{Edit}
@@ -8,7 +9,7 @@ use Rattle.map_tables.specs.declared.edit.Item.TheVariants as item
 use Rattle.map_commands.specs.Step.{after}
 use Rattle.map_commands.specs.declared.command.Command.{Command}
 use Rattle.map_commands.specs.declared.command.Command.TheVariants as command
-use Rattle.map_areas.specs.Drawn.{TakesCommand}
+use Rattle.map_areas.specs.Drawn.{TakesCommand, drawn}
 use Rattle.map_areas.specs.Stays.{Continues, Draws, IsDrawing, KeepsItems}
 
 -- nothing was added
@@ -97,3 +98,9 @@ command_keeps m (command.Room r) h = absurd h
 pub taken_keeps : (a m : Tables) (c : Command) (new : Tables) → KeepsItems a m → TakesCommand m c new → KeepsItems a new
 taken_keeps a m c new h t =
     keeps_then a m new h (subst (λ (n : Tables). KeepsItems m n) (sym t.left) (command_keeps m c t.draws))
+
+-- commands that draw
+pub keeps_drawing : (m : Tables) (cs : List Command) → All Draws cs → KeepsItems m (drawn m cs)
+keeps_drawing m [] h = keeps_same m
+keeps_drawing m (c ∷ cs) h =
+    keeps_then m (after m c) (drawn (after m c) cs) (command_keeps m c (All-head Draws c cs h)) (keeps_drawing (after m c) cs (All-tail Draws c cs h))

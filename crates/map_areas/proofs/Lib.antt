@@ -17,3 +17,5 @@ pub mod AlongLines
 pub mod Led
 pub mod InOrder
 pub mod Any
+pub mod InTurn
+pub mod Pillars

@@ -6,10 +6,10 @@ use Rattle.std.specs.Prelude.{is_none}
 use Rattle.std.specs.Ordering.{int_eq}
 use Rattle.std.proofs.lemmas.Bool.Decides.{Decides-int_eq, nat_tests}
 use Rattle.std.proofs.lemmas.List.Elements.{All-get_or}
-use Rattle.std.proofs.lemmas.List.Folds.{Any-from_list_any}
+use Rattle.std.proofs.lemmas.List.Folds.{Any-from_list_any, list_any_at}
 use Rattle.lump_records.specs.declared.records.Vertex.{Vertex}
 use Rattle.map_plane.proofs.LineReads.{length-placed_lines}
-use Rattle.map_plane.proofs.Tests.{and_both}
+use Rattle.map_plane.proofs.Tests.{and_both, both, or_right}
 use Rattle.map_plane.specs.Meeting.{is_at}
 use Rattle.map_plane.specs.Nearest.{sector_of_place}
 use Rattle.map_plane.specs.Places.{placed_lines}
@@ -62,6 +62,46 @@ pub not_apart : (m : Tables) (es : List PlacedLine) (s : ℕ) (first second : Pa
 not_apart m es s first second all =
     both_and (is_corner_part m es first) (is_corner_part m es second) (is_none second.sector || not (is_same first.sector second.sector))
     (λ a b. in_one first.sector second.sector s (corner_in m es s first all a) (corner_in m es s second all b))
+
+at_itself : (v : Vertex) → is_at v v ≡ true
+unfolding is_at
+at_itself v = both (int_eq v.x v.x) (int_eq v.y v.y) ((Decides-int_eq v.x v.x).1 refl) ((Decides-int_eq v.y v.y).1 refl)
+
+pub same_itself : (o : Option ℕ) → is_same o o ≡ true
+same_itself None = refl
+same_itself (Some n) = grind (arith, nat_tests)
+
+-- an edge, and the sector of its start
+corner_there : (m : Tables) (es : List PlacedLine) (k : ℕ) (d : PlacedLine) (p : Part) → k < length es → p.from ≡ (get_or es k d).from → p.to ≡ (get_or es k d).to
+    → p.sector ≡ sector_of_place m (get_or es k d).from → is_corner_part m es p ≡ true
+corner_there m es k d p lt from to sector =
+    let e = get_or es k d in
+    let leads = λ (l : PlacedLine). is_at l.from p.from && is_at l.to p.to in
+    let start : is_at e.from p.from ≡ true = ap (is_at e.from) from ∙ at_itself e.from in
+    let end : is_at e.to p.to ≡ true = ap (is_at e.to) to ∙ at_itself e.to in
+    let there : list_any leads es ≡ true = list_any_at leads es k d lt (both (is_at e.from p.from) (is_at e.to p.to) start end) in
+    let same : is_same (sector_of_place m p.from) p.sector ≡ true =
+    (λ i. is_same (sector_of_place m (from i)) (sector i)) ∙ same_itself (sector_of_place m e.from) in
+    both (list_any leads es) (is_same (sector_of_place m p.from) p.sector) there same
+
+-- a corner in no sector
+pub apart_in_void : (m : Tables) (es : List PlacedLine) (d : PlacedLine) (p : Part) → 0 < length es → p.from ≡ (get_or es 0 d).from → p.to ≡ (get_or es 0 d).to
+    → p.sector ≡ sector_of_place m (get_or es 0 d).from → p.sector ≡ None → are_apart m es p p ≡ true
+apart_in_void m es d p lt from to sector none =
+    let corner = corner_there m es 0 d p lt from to sector in
+    λ i. corner i && corner i && (is_none (none i) || not (is_same p.sector p.sector))
+
+-- a corner in another sector than the first one, or in none
+pub apart_in_two : (m : Tables) (es : List PlacedLine) (d : PlacedLine) (p : Part) (k : ℕ) (e : PlacedLine) (q : Part) (s : ℕ)
+    → 0 < length es → p.from ≡ (get_or es 0 d).from → p.to ≡ (get_or es 0 d).to → p.sector ≡ sector_of_place m (get_or es 0 d).from → p.sector ≡ Some s
+    → k < length es → q.from ≡ (get_or es k e).from → q.to ≡ (get_or es k e).to → q.sector ≡ sector_of_place m (get_or es k e).from
+    → is_same (Some s) q.sector ≡ false → are_apart m es p q ≡ true
+apart_in_two m es d p k e q s some from to sector one lt from' to' sector' apart =
+    let corner = corner_there m es 0 d p some from to sector in
+    let other = corner_there m es k e q lt from' to' sector' in
+    let differ : not (is_same p.sector q.sector) ≡ true = ap (λ (o : Option ℕ). not (is_same o q.sector)) one ∙ ap not apart in
+    let last : (is_none q.sector || not (is_same p.sector q.sector)) ≡ true = or_right (is_none q.sector) (not (is_same p.sector q.sector)) differ in
+    λ i. corner i && other i && last i
 
 -- ---- Lines
 

@@ -9,10 +9,6 @@ use Rattle.map_areas.specs.Bordered.{IsBordered}
 use Rattle.map_areas.specs.Drawn.{LeadTo, drawn}
 use Rattle.map_areas.specs.Stays.{BecomesLine, BecomesSide, EachBecomes, KeepsItems, KeepsRest}
 
--- the map that commands lead to keeps the tables, so the one that they leave does
-pub keeps_drawn : (m new : Tables) (cs : List Command) → LeadTo m cs new → KeepsItems m new → KeepsItems m (drawn m cs)
-keeps_drawn m new cs h keeps = subst (λ (t : Tables). KeepsItems m t) (LeadTo-drawn m cs new h) keeps
-
 -- what stays in the map that commands lead to stays in the one that they leave
 pub stays_drawn : (m new : Tables) (cs : List Command) (es fs ds : List PlacedLine) (round : Option ℕ) (s : ℕ) → LeadTo m cs new → fs ≡ es → ds ≡ doubled fs
     → s ≡ length m.sectors → KeepsItems m new → EachBecomes (BecomesSide round s) m.sides new.sides → EachBecomes BecomesLine m.lines new.lines

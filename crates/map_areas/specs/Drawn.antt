@@ -1,6 +1,7 @@
 -- Commands that are drawn in turn into a map.
-use Rattle.std.specs.Prelude.{◌≡◌, ℕ, true, All, List, [], ◌∷◌, None, Some, fold}
+use Rattle.std.specs.Prelude.{◌≡◌, ℕ, true, All, List, [], ◌∷◌, None, Option, Some, fold}
 use Rattle.std.specs.List.{list_any}
+use Rattle.std.specs.Option.{option_or}
 use Rattle.map_plane.specs.Meeting.{is_on}
 use Rattle.map_plane.specs.declared.places.PlacedLine.{PlacedLine}
 use Rattle.map_tables.specs.Errors.{code_of}
@@ -75,3 +76,14 @@ RefusesDrawing m es (Refused e) = RefusesInTurn es m (code_of e)
 RefusesDrawing m es NotDrawn = Unit {0}
 RefusesDrawing m es OutOfMemory = Unit {0}
 RefusesDrawing m es e = ⊥
+
+-- the code of the first of the commands that the map refuses which those before it leave, if it refuses one
+abbrev pub first_refusal : Tables → List Command → Option ℕ
+first_refusal m [] = None
+first_refusal m (c ∷ cs) = option_or (least (faults m c)) (first_refusal (after m c) cs)
+
+-- one of the commands is the first, in turn, that the map refuses, with this refusal, or memory lacks
+abbrev pub RefusesOneOf : Tables → List Command → AreaError → Type 0
+RefusesOneOf m cs (Refused e) = first_refusal m cs ≡ Some (code_of e)
+RefusesOneOf m cs OutOfMemory = Unit {0}
+RefusesOneOf m cs e = ⊥

@@ -7,6 +7,7 @@ pub mod Changes
 pub mod Ways
 pub mod Bordered
 pub mod Areas
+pub mod Pillars
 pub mod Refusals
 pub mod Stops
 pub mod Inside

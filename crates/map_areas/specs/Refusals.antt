@@ -1,7 +1,8 @@
 -- What a refusal of a shape says of the map.
-use Rattle.std.specs.Prelude.{◌≡◌, ℕ, Bool, true, false, ◌&&◌, ◌||◌, not, List, None, Some, is_none, slice_get}
+use Rattle.std.specs.Prelude.{◌≡◌, ℕ, All, Bool, true, false, ◌&&◌, ◌||◌, not, List, None, Some, is_none, slice_get}
 use Rattle.std.specs.List.{list_any}
 use Rattle.std.specs.Option.{option_map_or}
+use Rattle.lump_records.specs.declared.records.Name8.{Name8}
 use Rattle.lump_records.specs.declared.records.Vertex.{Vertex}
 use Rattle.map_plane.specs.Meeting.{has_on_both_sides, is_at, is_on}
 use Rattle.map_plane.specs.Nearest.{sector_of_place}
@@ -10,10 +11,11 @@ use Rattle.map_plane.specs.Polygon.{is_inside}
 use Rattle.map_plane.specs.declared.places.PlacedLine.{PlacedLine}
 use Rattle.map_tables.specs.Tables.{Tables}
 use Rattle.map_areas.specs.declared.error.AreaError.{AreaError}
-use Rattle.map_areas.specs.declared.error.AreaError.TheVariants.{Crossing, NotAPolygon, NotDrawn, NotEmpty, OutOfMemory, OverVertex, Refused, SeveralSectors}
+use Rattle.map_areas.specs.declared.error.AreaError.TheVariants.{Crossing, NotAPolygon, NotDrawn, NotEmpty, OutOfMemory, OutOfRange, OverVertex, Refused, SeveralSectors}
 use Rattle.map_areas.specs.declared.error.Part.{Part}
-use Rattle.map_areas.specs.Drawn.{RefusesInTurn}
+use Rattle.map_areas.specs.Drawn.{RefusesInTurn, first_refusal}
 use Rattle.map_areas.specs.Inside.{IsPartInside}
+use Rattle.map_areas.specs.Pillars.{pillar_drawn}
 use Rattle.map_areas.specs.Stops.{is_between_stops}
 use Rattle.map_areas.specs.Ways.{crosses_way, is_clear, is_same, sector_on_right, way}
 use Rattle.map_tables.specs.Errors.{code_of}
@@ -46,6 +48,10 @@ abbrev pub are_apart : Tables → List PlacedLine → Part → Part → Bool
 are_apart m es first second = is_corner_part m es first && is_corner_part m es second
     && (is_none second.sector || not (is_same first.sector second.sector))
 
+-- each corner of an outline belongs to the sector
+abbrev pub AreInSector : Tables → List PlacedLine → ℕ → Type 0
+AreInSector m es sector = All (λ e. sector_of_place m e.from ≡ Some sector) es
+
 -- no reason refuses a pillar: its corners are in one sector, each line is wholly outside, and no vertex lies under an
 -- edge
 pub record MayStand (m : Tables) (es : List PlacedLine) : Type 0 where
@@ -53,15 +59,31 @@ pub record MayStand (m : Tables) (es : List PlacedLine) : Type 0 where
   pub lines : (n : ℕ) → IsLineInside m es n → ⊥
   pub vertices : (n : ℕ) → IsVertexUnder m es n → ⊥
 
--- a pillar is refused with 27 only if its corners aren't in one sector, with 28 only if a line isn't wholly outside or
--- a vertex lies under an edge, never with 26, and as a command is only if it is drawn by commands that aren't all taken
-abbrev pub IsPillarRefusal : Tables → List PlacedLine → AreaError → Type 0
-IsPillarRefusal m es (Crossing line near) = ⊥
-IsPillarRefusal m es (SeveralSectors first second) = are_apart m es first second ≡ true
-IsPillarRefusal m es (NotEmpty line) = IsLineInside m es line
-IsPillarRefusal m es (OverVertex vertex) = IsVertexUnder m es vertex
-IsPillarRefusal m es (Refused e) = RefusesInTurn es m (code_of e)
-IsPillarRefusal m es e = Unit {0}
+-- what is there refuses a pillar: with 27 only if its corners aren't in one sector, with 28 only if a line isn't wholly
+-- outside or a vertex lies under an edge
+abbrev pub IsStandRefusal : Tables → List PlacedLine → AreaError → Type 0
+IsStandRefusal m es (SeveralSectors first second) = are_apart m es first second ≡ true
+IsStandRefusal m es (NotEmpty line) = IsLineInside m es line
+IsStandRefusal m es (OverVertex vertex) = IsVertexUnder m es vertex
+IsStandRefusal m es e = ⊥
+
+-- a pillar that may stand, with its corners in a sector, is refused with the code: that of the first of the commands
+-- which draw it, in turn, that the map refuses
+pub record RefusesWalls (m : Tables) (es : List PlacedLine) (texture : Name8) (code : ℕ)
+    : Type 0 where
+  pub stands : MayStand m es
+  pub sector : ℕ
+  pub corners : AreInSector m es sector
+  pub refused : first_refusal m (pillar_drawn m es texture sector) ≡ Some code
+
+-- a pillar is refused for its outline or its ranges, for what is there, as one of its commands is, or for lack of
+-- memory; never with 26
+abbrev pub IsPillarRefusal : Tables → List PlacedLine → Name8 → AreaError → Type 0
+IsPillarRefusal m es texture (NotAPolygon corner) = Unit {0}
+IsPillarRefusal m es texture OutOfRange = Unit {0}
+IsPillarRefusal m es texture OutOfMemory = Unit {0}
+IsPillarRefusal m es texture (Refused e) = RefusesWalls m es texture (code_of e)
+IsPillarRefusal m es texture e = IsStandRefusal m es e
 
 -- the refusal is that of an outline, or memory lacks
 abbrev pub IsOfOutline : AreaError → Type 0

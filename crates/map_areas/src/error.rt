@@ -34,7 +34,8 @@ pub enum AreaError {
     OverVertex { vertex: u16 },
     /// A command would be refused so: a table is full, or a line is too long.
     Refused(MapError),
-    /// The commands that would draw it don't pass their trial, which is a fault of this crate.
+    /// The commands that would draw an area don't pass their trial, which is a fault of this crate. No pillar is
+    /// refused so.
     NotDrawn,
     OutOfMemory,
 }

@@ -13,6 +13,7 @@ mod error;
 mod inside;
 mod kept;
 mod pillar;
+mod pillar_walls;
 mod plan;
 mod polygon;
 mod ranges;

@@ -1,5 +1,6 @@
 //! The lines of a border: new ones, and those that are there.
 ghost use Rattle.std.specs.Prelude.{◌≡◌};
+ghost use Rattle.map_areas.specs.Pillars.{solid_side};
 ghost use Rattle.map_areas.specs.Stays.{opened_flags};
 
 use crate::plan::Plan;
@@ -13,7 +14,9 @@ pub(crate) const NO_TEXTURE: Name8 = Name8 {
 };
 
 /// A side with a texture in the middle alone.
-pub(crate) fn solid_side(wall: Name8, sector: u16) -> Side {
+pub(crate) fn solid_side(wall: Name8, sector: u16) -> Side
+    ensures { result ≡ solid_side wall sector }
+{
     Side {
         x_offset: 0,
         y_offset: 0,

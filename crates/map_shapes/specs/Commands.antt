@@ -56,7 +56,7 @@ MakesDoor m d commands = (least (door_faults m d) ≡ None)
 -- the commands are those that draw the shape onto the map
 abbrev pub Becomes : Tables → Shape → List Command → Type 0
 Becomes m (Area a) commands = AcceptsArea m a.corners.items commands
-Becomes m (Pillar p) commands = AcceptsPillar m p.corners.items commands
+Becomes m (Pillar p) commands = AcceptsPillar m p commands
 Becomes m (Sliding d) commands = MakesDoor m d commands
 Becomes m (Changing c) commands =
     (command : Command) × (commands ≡ command ∷ []) × Changes m c command
@@ -69,7 +69,7 @@ IsOfArea Reason e = ⊥
 -- why a shape can't be drawn onto the map
 abbrev pub RefusesShape : Tables → Shape → ShapeError → Type 0
 RefusesShape m (Area a) e = IsOfArea (RefusesArea m a.corners.items) e
-RefusesShape m (Pillar p) e = IsOfArea (RefusesPillar m p.corners.items) e
+RefusesShape m (Pillar p) e = IsOfArea (RefusesPillar m p) e
 RefusesShape m (Sliding d) e = least (door_faults m d) ≡ Some (code_of e)
 RefusesShape m (Changing c) e = RefusesChange m c e
 
