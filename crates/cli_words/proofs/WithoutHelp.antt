@@ -19,6 +19,15 @@ two f (x ∷ []) d len = absurd (omega arith)
 two f (x ∷ y ∷ []) d len = refl
 two f (x ∷ y ∷ z ∷ xs) d len = absurd (omega arith)
 
+-- the three words of a list of three
+pub three : {X : Type 0} (f : X → Text) (xs : List X) (d : X) → length xs ≡ 3
+    → f (get_or xs 0 d) ∷ f (get_or xs 1 d) ∷ f (get_or xs 2 d) ∷ [] ≡ map f xs
+three f [] d len = absurd (omega arith)
+three f (x ∷ []) d len = absurd (omega arith)
+three f (x ∷ y ∷ []) d len = absurd (omega arith)
+three f (x ∷ y ∷ z ∷ []) d len = refl
+three f (x ∷ y ∷ z ∷ w ∷ xs) d len = absurd (omega arith)
+
 -- other words are read as they are
 pub others : {X : Type 0} (f : X → Text) (xs : List X) → (length xs ≡ 2 → ⊥) → (length xs ≡ 3 → ⊥) → map f xs ≡ without_help (map f xs)
 others f [] no_two no_three = refl

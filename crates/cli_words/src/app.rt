@@ -1,6 +1,6 @@
 //! The command line that clap reads: the program and its subcommands.
 ghost use Rattle.std.specs.Prelude.{◌≡◌, IfOk, codes};
-ghost use Rattle.clap.specs.Words.{App, app_of, new_app, with_subcommand};
+ghost use Rattle.clap.specs.Words.{App, Rule, app_of, new_app, with_rule, with_subcommand};
 ghost use Rattle.cli_words.specs.App.{IsArg, IsCommand, build_app, check_app, create_app, draw_app, dump_app, flag_rule, inspect_app, journal_rule, last_rule, last_words_rule, leveled_app, lint_app, option_rule, path_rule, picture_app, rebuild_app, repeated_rule, slot_rule, with_subcommands, with_one_word, word_rule};
 
 use crate::help;
@@ -92,13 +92,30 @@ fn journal<'a>(alloc: Global) -> Arg<'a>
     option(alloc, "journal", "65536").value_parser(value_parser!(u32).range(512..=1048576))
 }
 
+// The command with one more argument, if there was memory for both.
+fn with_arg<'a>(
+    command: Result<Command<'a>, AllocError>,
+    arg: Arg<'a>,
+) -> Result<Command<'a>, AllocError>
+    ensures { (a : App) (r : Rule) → IfOk command.entry (λ c. IsCommand c a) → IsArg arg.entry r
+        → IfOk result (λ c. IsCommand c (with_rule a r)) }
+{
+    match command {
+        Ok(command) => command.arg(arg),
+        Err(error) => {
+            drop(arg);
+            Err(error)
+        }
+    }
+}
+
 // `create`.
 fn create<'a>(alloc: Global) -> Result<Command<'a>, AllocError>
     ensures { IfOk result (λ c. IsCommand c create_app) }
 {
-    over_file(alloc, "create", "Makes a project file", help::CREATE)?
-        .arg(slot(alloc))?
-        .arg(journal(alloc))
+    let create = over_file(alloc, "create", "Makes a project file", help::CREATE);
+    let create = with_arg(create, slot(alloc));
+    with_arg(create, journal(alloc))
 }
 
 // `check`.
@@ -106,7 +123,8 @@ fn check<'a>(alloc: Global) -> Result<Command<'a>, AllocError>
     ensures { IfOk result (λ c. IsCommand c check_app) }
 {
     let about = "Prints what is wrong in a map of a project or a level of a WAD";
-    over_file(alloc, "check", about, help::CHECK)?.arg(last_word(alloc, "map", "MAP"))
+    let check = over_file(alloc, "check", about, help::CHECK);
+    with_arg(check, last_word(alloc, "map", "MAP"))
 }
 
 // `lint`.
@@ -114,11 +132,11 @@ fn lint<'a>(alloc: Global) -> Result<Command<'a>, AllocError>
     ensures { IfOk result (λ c. IsCommand c lint_app) }
 {
     let about = "Prints what is wrong or doubtful in the maps of a project or the levels of a WAD";
-    over_file(alloc, "lint", about, help::LINT)?
-        .arg(last_word(alloc, "map", "MAP"))?
-        .arg(path(alloc, "iwad", "WAD"))?
-        .arg(repeated(alloc, "only", "WORD"))?
-        .arg(repeated(alloc, "except", "WORD"))
+    let lint = over_file(alloc, "lint", about, help::LINT);
+    let lint = with_arg(lint, last_word(alloc, "map", "MAP"));
+    let lint = with_arg(lint, path(alloc, "iwad", "WAD"));
+    let lint = with_arg(lint, repeated(alloc, "only", "WORD"));
+    with_arg(lint, repeated(alloc, "except", "WORD"))
 }
 
 // `draw`.
@@ -126,10 +144,10 @@ fn draw<'a>(alloc: Global) -> Result<Command<'a>, AllocError>
     ensures { IfOk result (λ c. IsCommand c draw_app) }
 {
     let about = "Draws a script onto a project, if no line is refused";
-    over_file(alloc, "draw", about, help::DRAW)?
-        .arg(last_word(alloc, "script", "SCRIPT"))?
-        .arg(flag(alloc, "check"))?
-        .arg(flag(alloc, "verbose"))
+    let draw = over_file(alloc, "draw", about, help::DRAW);
+    let draw = with_arg(draw, last_word(alloc, "script", "SCRIPT"));
+    let draw = with_arg(draw, flag(alloc, "check"));
+    with_arg(draw, flag(alloc, "verbose"))
 }
 
 // `dump`.
@@ -137,10 +155,10 @@ fn dump<'a>(alloc: Global) -> Result<Command<'a>, AllocError>
     ensures { IfOk result (λ c. IsCommand c dump_app) }
 {
     let about = "Prints commands that draw the maps of a project or the levels of a WAD";
-    over_file(alloc, "dump", about, help::DUMP)?
-        .arg(last_words(alloc, "name", "NAME"))?
-        .arg(flag(alloc, "exact"))?
-        .arg(flag(alloc, "salvage"))
+    let dump = over_file(alloc, "dump", about, help::DUMP);
+    let dump = with_arg(dump, last_words(alloc, "name", "NAME"));
+    let dump = with_arg(dump, flag(alloc, "exact"));
+    with_arg(dump, flag(alloc, "salvage"))
 }
 
 // `picture`.
@@ -148,15 +166,15 @@ fn picture<'a>(alloc: Global) -> Result<Command<'a>, AllocError>
     ensures { IfOk result (λ c. IsCommand c picture_app) }
 {
     let about = "Draws a map of a project or a level of a WAD as a picture (SVG)";
-    over_file(alloc, "picture", about, help::PICTURE)?
-        .arg(last_word(alloc, "map", "MAP"))?
-        .arg(path(alloc, "out", "OUT"))?
-        .arg(flag(alloc, "numbers"))?
-        .arg(flag(alloc, "nodes"))?
-        .arg(flag(alloc, "lint"))?
-        .arg(flag(alloc, "heights"))?
-        .arg(flag(alloc, "grid"))?
-        .arg(path(alloc, "crop", "X1,Y1,X2,Y2"))
+    let picture = over_file(alloc, "picture", about, help::PICTURE);
+    let picture = with_arg(picture, last_word(alloc, "map", "MAP"));
+    let picture = with_arg(picture, path(alloc, "out", "OUT"));
+    let picture = with_arg(picture, flag(alloc, "numbers"));
+    let picture = with_arg(picture, flag(alloc, "nodes"));
+    let picture = with_arg(picture, flag(alloc, "lint"));
+    let picture = with_arg(picture, flag(alloc, "heights"));
+    let picture = with_arg(picture, flag(alloc, "grid"));
+    with_arg(picture, path(alloc, "crop", "X1,Y1,X2,Y2"))
 }
 
 // `build`.
@@ -164,7 +182,8 @@ fn build<'a>(alloc: Global) -> Result<Command<'a>, AllocError>
     ensures { IfOk result (λ c. IsCommand c build_app) }
 {
     let about = "Builds a project's maps into a PWAD";
-    over_file(alloc, "build", about, help::BUILD)?.arg(word(alloc, "out", "OUT"))
+    let build = over_file(alloc, "build", about, help::BUILD);
+    with_arg(build, word(alloc, "out", "OUT"))
 }
 
 // `rebuild`.
@@ -172,10 +191,10 @@ fn rebuild<'a>(alloc: Global) -> Result<Command<'a>, AllocError>
     ensures { IfOk result (λ c. IsCommand c rebuild_app) }
 {
     let about = "Builds the nodes of a WAD's levels anew";
-    named(alloc, "rebuild", about, help::REBUILD)
-        .arg(word(alloc, "wad", "IN"))?
-        .arg(word(alloc, "out", "OUT"))?
-        .arg(repeated(alloc, "map", "NAME"))
+    let rebuild = named(alloc, "rebuild", about, help::REBUILD);
+    let rebuild = rebuild.arg(word(alloc, "wad", "IN"));
+    let rebuild = with_arg(rebuild, word(alloc, "out", "OUT"));
+    with_arg(rebuild, repeated(alloc, "map", "NAME"))
 }
 
 // `inspect`.
@@ -183,9 +202,9 @@ fn inspect<'a>(alloc: Global) -> Result<Command<'a>, AllocError>
     ensures { IfOk result (λ c. IsCommand c inspect_app) }
 {
     let about = "Prints whether a level of a WAD is sound, or lists the levels";
-    named(alloc, "inspect", about, help::INSPECT)
-        .arg(word(alloc, "wad", "WAD"))?
-        .arg(last_word(alloc, "name", "NAME"))
+    let inspect = named(alloc, "inspect", about, help::INSPECT);
+    let inspect = inspect.arg(word(alloc, "wad", "WAD"));
+    with_arg(inspect, last_word(alloc, "name", "NAME"))
 }
 
 // The program with one more subcommand, if there was memory for both.

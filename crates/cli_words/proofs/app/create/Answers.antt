@@ -1,8 +1,6 @@
-use Rattle.std.proofs.lemmas.Result.{IfOk-weaker}
-use Rattle.cli_words.proofs.Built.{arg_added}
 use Rattle.cli_words.proofs.app.create.Goals as goal
 
 pub returns : goal.returns
 returns c =
-    let first = arg_added _ _ _ _ _ c.in_ok-arg.ensures c.in_ok-over_file.ensures c.slot.ensures in
-    IfOk-weaker c.arg-2.result _ _ (λ made adds. arg_added _ _ _ _ _ adds first c.journal.ensures) c.arg-2.ensures
+    let s1 = c.with_arg-create.ensures _ _ c.over_file-create.ensures c.slot.ensures in
+    c.with_arg.ensures _ _ s1 c.journal.ensures

@@ -1,9 +1,7 @@
-use Rattle.std.proofs.lemmas.Result.{IfOk-weaker}
-use Rattle.cli_words.proofs.Built.{arg_added}
 use Rattle.cli_words.proofs.app.draw.Goals as goal
 
 pub returns : goal.returns
 returns c =
-    let first = arg_added _ _ _ _ _ c.in_ok-arg.ensures c.in_ok-over_file.ensures c.last_word.ensures in
-    let second = arg_added _ _ _ _ _ c.in_ok-arg-2.ensures first c.flag.ensures in
-    IfOk-weaker c.arg-3.result _ _ (λ made adds. arg_added _ _ _ _ _ adds second c.flag-2.ensures) c.arg-3.ensures
+    let s1 = c.with_arg-draw.ensures _ _ c.over_file-draw.ensures c.last_word.ensures in
+    let s2 = c.with_arg-draw-2.ensures _ _ s1 c.flag.ensures in
+    c.with_arg.ensures _ _ s2 c.flag-2.ensures

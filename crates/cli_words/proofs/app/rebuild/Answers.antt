@@ -4,6 +4,6 @@ use Rattle.cli_words.proofs.app.rebuild.Goals as goal
 
 pub returns : goal.returns
 returns c =
-    let first = arg_added _ _ _ _ _ c.in_ok-arg.ensures c.named.ensures c.word.ensures in
-    let second = arg_added _ _ _ _ _ c.in_ok-arg-2.ensures first c.word-2.ensures in
-    IfOk-weaker c.arg-3.result _ _ (λ made adds. arg_added _ _ _ _ _ adds second c.repeated.ensures) c.arg-3.ensures
+    let s0 = IfOk-weaker c.arg-rebuild.result _ _ (λ made adds. arg_added _ _ _ _ _ adds c.named-rebuild.ensures c.word.ensures) c.arg-rebuild.ensures in
+    let s1 = c.with_arg-rebuild.ensures _ _ s0 c.word-2.ensures in
+    c.with_arg.ensures _ _ s1 c.repeated.ensures
