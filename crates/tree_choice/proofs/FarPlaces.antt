@@ -106,6 +106,40 @@ add_within o h w l k = let a = w.low in let b = w.high in record { low = omega (
 sub_within : (o h : ℤ) → IsWithin (pos 2147418112) o → pos 0 ≤ℤ h → h ≤ℤ pos 32767 → IsWithin (pos 2147483647) (o -ℤ h)
 sub_within o h w l k = let a = w.low in let b = w.high in record { low = omega (arith, linear); high = omega (arith, linear) }
 
+-- such a value and half of a blur, as numbers of 32 bits
+pub record AreBack (o h : ℤ) : Type 0 where
+  pub value : to_z w32 (of_z w32 o) ≡ o
+  pub half : to_z w32 (of_z w32 h) ≡ h
+
+are_back : (o h : ℤ) → IsWithin (pos 2147418112) o → pos 0 ≤ℤ h → h ≤ℤ pos 32767 → AreBack o h
+are_back o h w l k =
+    let a = w.low in
+    let b = w.high in
+    record {
+      value = back o (record { low = omega (arith, ints); high = omega (arith, ints) });
+      half = back h (record { low = omega (arith, ints); high = omega (arith, ints) });
+    }
+
+pub add_fits : (o h : ℤ) → IsWithin (pos 2147418112) o → pos 0 ≤ℤ h → h ≤ℤ pos 32767
+    → FitsSigned w32 (to_z w32 (of_z w32 o) +ℤ to_z w32 (of_z w32 h))
+add_fits o h w l k =
+    let e = are_back o h w l k in
+    let s = add_within o h w l k in
+    let a = s.low in
+    let b = s.high in
+    let f : FitsSigned w32 (o +ℤ h) = omega (arith, ints) in
+    rw (e.value, e.half) f
+
+pub sub_fits : (o h : ℤ) → IsWithin (pos 2147418112) o → pos 0 ≤ℤ h → h ≤ℤ pos 32767
+    → FitsSigned w32 (to_z w32 (of_z w32 o) -ℤ to_z w32 (of_z w32 h))
+sub_fits o h w l k =
+    let e = are_back o h w l k in
+    let s = sub_within o h w l k in
+    let a = s.low in
+    let b = s.high in
+    let f : FitsSigned w32 (o -ℤ h) = omega (arith, ints) in
+    rw (e.value, e.half) f
+
 pub are_margins : (r : Ray) (n : Normal) (o h : ℤ) → IsLineRay r → IsNormal r n → o ≡ ray_offset r → IsWithin (pos 2147418112) o
     → pos (blur r) ≤ℤ (pos 2 *ℤ h +ℤ pos 1) → pos 0 ≤ℤ h → h ≤ℤ pos 32767
     → AreMargins (record { ray = r; normal = n; above = to_z w32 (of_z w32 (to_z w32 (of_z w32 o) +ℤ to_z w32 (of_z w32 h))); below = to_z w32 (of_z w32 (to_z w32 (of_z w32 o) -ℤ to_z w32 (of_z w32 h))) })

@@ -1,8 +1,10 @@
-use Rattle.std.proofs.Common.{rules, ap, ◌∙◌, take, length}
+use Rattle.std.proofs.Common.{rules, arith, ap, ◌∙◌, take, length}
 use Rattle.std.proofs.lemmas.Int.{to_z-of_z}
+use Rattle.std.proofs.lemmas.List.{length-take}
 use Rattle.std.specs.Prelude.{pos, int_le, FitsSigned}
 use Rattle.std.specs.Int.{w32}
-use Rattle.tree_choice.specs.Columns.{AreCorners}
+use Rattle.tree_choice.specs.Columns.{AreCorners, left_top, left_bottom, right_top, right_bottom}
+use Rattle.tree_choice.proofs.Columns.{column_length}
 use Rattle.tree_choice.proofs.Corners.{chosen, chosen_other}
 use Rattle.tree_choice.proofs.sorting.blocks_for.Goals as goal
 use Rattle.tree_choice.proofs.sorting.blocks_for.Goals.{After-column-highs}
@@ -28,6 +30,34 @@ corners c =
       lows_are = l ∙ chosen (int_le (pos 0) r.dy) (int_le (pos 0) r.dx) blocks _ _ _ _ _ _ ll lr lt lb rt rb;
       highs_are = h ∙ chosen_other (int_le (pos 0) r.dy) (int_le (pos 0) r.dx) blocks _ _ _ _ _ _ hr hl lt lb rt rb;
     }
+
+pub slice_bounds-left_top-end : goal.slice_bounds-left_top-end
+slice_bounds-left_top-end c =
+    let blocks = c.args.list.now.blocks.now in
+    let same = column_length left_top blocks (take (length blocks) c.deref.result.now) (ap (take (length blocks)) c.deref.ensures.value ∙ c.requires.corners.left_tops) in
+    let taken = length-take (length blocks) c.deref.result.now in
+    omega (arith, same, taken)
+
+pub slice_bounds-left_bottom-end : goal.slice_bounds-left_bottom-end
+slice_bounds-left_bottom-end c =
+    let blocks = c.args.list.now.blocks.now in
+    let same = column_length left_bottom blocks (take (length blocks) c.deref-2.result.now) (ap (take (length blocks)) c.deref-2.ensures.value ∙ c.requires.corners.left_bottoms) in
+    let taken = length-take (length blocks) c.deref-2.result.now in
+    omega (arith, same, taken)
+
+pub slice_bounds-right_top-end : goal.slice_bounds-right_top-end
+slice_bounds-right_top-end c =
+    let blocks = c.args.list.now.blocks.now in
+    let same = column_length right_top blocks (take (length blocks) c.deref-3.result.now) (ap (take (length blocks)) c.deref-3.ensures.value ∙ c.requires.corners.right_tops) in
+    let taken = length-take (length blocks) c.deref-3.result.now in
+    omega (arith, same, taken)
+
+pub slice_bounds-right_bottom-end : goal.slice_bounds-right_bottom-end
+slice_bounds-right_bottom-end c =
+    let blocks = c.args.list.now.blocks.now in
+    let same = column_length right_bottom blocks (take (length blocks) c.deref-4.result.now) (ap (take (length blocks)) c.deref-4.ensures.value ∙ c.requires.corners.right_bottoms) in
+    let taken = length-take (length blocks) c.deref-4.result.now in
+    omega (arith, same, taken)
 
 pub returns-clause-blocks : goal.returns-clause-blocks
 returns-clause-blocks c = record {

@@ -21,6 +21,12 @@ bounds-firsts-n c = let l = column_length (first_end c.args.by.now.lines.now) c.
 pub bounds-lasts-n : goal.bounds-lasts-n
 bounds-lasts-n c = let l = column_length (last_end c.args.by.now.lines.now) c.args.list.now.pieces.now c.args.list.now.lasts.now c.requires.list.ends.lasts_are in omega arith
 
+pub bounds-firsts-n-in-loop-n : goal.bounds-firsts-n-in-loop-n
+bounds-firsts-n-in-loop-n c = let l = column_length (first_end c.args.by.now.lines.now) c.args.list.now.pieces.now c.args.list.now.firsts.now c.requires.list.ends.firsts_are in omega arith
+
+pub bounds-lasts-n-in-loop-n : goal.bounds-lasts-n-in-loop-n
+bounds-lasts-n-in-loop-n c = let l = column_length (last_end c.args.by.now.lines.now) c.args.list.now.pieces.now c.args.list.now.lasts.now c.requires.list.ends.lasts_are in omega arith
+
 pub count_clear-more-requires-clause-normal : goal.count_clear-more-requires-clause-normal
 count_clear-more-requires-clause-normal c =
     let r = c.args.by.now.margins.ray in
