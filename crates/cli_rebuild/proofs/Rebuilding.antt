@@ -1,5 +1,5 @@
 -- From what is told of each level of a WAD that is built anew to what the request `rebuild` promises.
-use Rattle.std.proofs.Common.{◌≡◌, ◌∙◌, ◌+◌, ◌<◌, ◌≤◌, ℕ, Bool, List, [], ◌∷◌, ◌++◌, Option, Result, Ok, Err, length, get_or, map, take, ◌⊎◌, inl, inr, refl, sym, ap, subst, append-nil}
+use Rattle.std.proofs.Common.{◌≡◌, ◌∙◌, ◌+◌, ◌<◌, ◌≤◌, ℕ, Bool, List, [], ◌∷◌, ◌++◌, Option, Some, Result, Ok, Err, length, get_or, map, take, ◌⊎◌, inl, inr, refl, sym, ap, subst, append-nil}
 use Rattle.std.specs.Prelude.{All, MatchResult, flat_map}
 use Rattle.std.specs.Io.KnownBytes.{Appends, Keeps}
 use Rattle.std.proofs.KnownBytes.{Appends-trans}
@@ -15,10 +15,11 @@ use Rattle.cli_sources.proofs.Opened.{unread_of}
 use Rattle.cli_sources.specs.Unread.{OverWadTold}
 use Rattle.cli_rebuild.specs.Rebuilding.{IsMadeFrom, IsPutInto, IsRebuiltAt, IsRebuiltOf, IsToldOf, MakesNone, PutsNone, fate_text, kept_line, kept_fault_lines, kept_notes, kept_of, left_as_text, made_text, status_rebuilt}
 use Rattle.run_edit.specs.declared.error.EditorError.TheVariants.{WriterFailed}
-use Rattle.wad_file.specs.Lumps.{IsWadOf, Lump, wad_of, wad_size}
-use Rattle.wad_rebuild.specs.Rebuilt.{IsFate, IsRebuilt, IsRebuiltAs, greatest_size, kept_in, rebuilt_lumps}
+use Rattle.wad_file.specs.Lumps.{wad_of}
+use Rattle.wad_file.specs.Placed.{IsListWritten, Placed, placed_size}
+use Rattle.wad_rebuild.specs.Rebuilt.{IsFate, IsRebuilt, IsRebuiltAs, greatest_size, kept_in}
 use Rattle.wad_rebuild.specs.Whole.{IsAcceptedWith, IsListOf}
-use Rattle.wad_rebuild.proofs.WholeLemmas.{bytes_refused}
+use Rattle.wad_rebuild.proofs.WholeLemmas.{bytes_refused, written_of_list}
 use Rattle.wad_rebuild.specs.declared.cause.Cause.{Cause}
 use Rattle.wad_rebuild.specs.declared.levels.Fate.{Fate}
 use Rattle.wad_rebuild.specs.declared.levels.Fate.TheVariants.{NotAsked, Made, Left}
@@ -70,16 +71,15 @@ kept_all wad all names (l ∷ ls) each =
 -- ---- The WAD
 
 -- the lumps were written into a file behind what a new one had
-pub put_into : {F : Type 0} (contents : F → Option (List ℕ)) (wad kind : List ℕ) (levels : List RebuiltLevel) (lumps : List Lump) (size : ℕ) (new file : F) → kind ≡ take 4 wad
-    → IsListOf wad levels lumps → size ≡ wad_size lumps → length (wad_of kind lumps) ≡ wad_size lumps → IsWadOf kind lumps (wad_of kind lumps)
-    → Appends (contents new) (contents file) (wad_of kind lumps) → IsPutInto contents wad levels size file
-put_into contents wad kind levels lumps size new file k l s long is put =
+pub put_into : {F : Type 0} (contents : F → Option (List ℕ)) (wad : List ℕ) (levels : List RebuiltLevel) (list : List Placed) (size : ℕ) (new file : F)
+    → IsListOf wad levels list → size ≡ placed_size list → IsListWritten (Some wad) (take 4 wad) list (contents new) (contents file) → IsPutInto contents wad levels size file
+put_into contents wad levels list size new file l s w =
     record {
-      bytes = wad_of kind lumps;
-      wad_is = subst (λ (w : List ℕ). IsWadOf w (rebuilt_lumps wad levels) (wad_of kind lumps)) k (subst (λ (ls : List Lump). IsWadOf kind ls (wad_of kind lumps)) l.lumps_are is);
-      fits = subst (λ (ls : List Lump). wad_size ls ≤ greatest_size wad) l.lumps_are l.fits;
-      size_is = s ∙ sym long;
-      made = (new, put);
+      bytes = wad_of (take 4 wad) w.lumps;
+      wad_is = written_of_list wad (take 4 wad) levels list (contents new) (contents file) refl l w;
+      fits = subst (λ (n : ℕ). n ≤ greatest_size wad) l.size_is l.fits;
+      size_is = s ∙ sym w.long;
+      made = (new, w.put);
     }
 
 -- so a WAD with accepted levels was made

@@ -1,9 +1,8 @@
 //! The request `rebuild`: builds the levels of a WAD anew, and writes the new WAD into a file.
-ghost use Rattle.std.specs.Prelude.{◌≡◌, ◌<◌, ◌≤◌, ◌⊎◌, length, true, IfOk, MatchResult, map, string_bytes};
+ghost use Rattle.std.specs.Prelude.{◌≡◌, ◌<◌, ◌≤◌, ◌⊎◌, IfOk, MatchResult, Some, map, string_bytes, take};
 ghost use Rattle.std.specs.Io.KnownBytes.{Appends, Keeps};
 ghost use Rattle.cli_files.specs.NewFile.{file_of};
-ghost use Rattle.wad_file.specs.Directory.{is_kind};
-ghost use Rattle.wad_file.specs.Lumps.{IsWadOf, wad_of, wad_size};
+ghost use Rattle.wad_file.specs.Placed.{IsListWritten, placed_size};
 ghost use Rattle.wad_rebuild.specs.Whole.{AreReady};
 ghost use Rattle.run_edit.specs.declared.error.EditorError.TheVariants.{WriterFailed};
 ghost use Rattle.cli_sources.specs.Unread.{OverWadTold};
@@ -17,9 +16,10 @@ use cli_refusals::{Causes, Refusal, status_told};
 use run_edit::{EditorError, InspectError};
 use std::fs::{self, Files, OpenFile};
 use std::io::{Read, Write};
+use wad_file::{LumpList, Wad};
 use wad_levels::ReadError;
 use wad_rebuild::{
-    AcceptedWad, Fate, LumpList, MadeLumps, RebuildError, RebuiltLevel, list_lumps, rebuild_levels,
+    AcceptedWad, Fate, MadeLumps, RebuildError, RebuiltLevel, list_lumps, rebuild_levels,
 };
 
 // The refusal of the request if the whole WAD is refused.
@@ -173,24 +173,23 @@ fn tell_rebuilt<W: Write, F: Write>(
     Ok(status_told(left == 0))
 }
 
-// Writes the WAD of these lumps into a new file, which replaces the one at its path once it is whole, and returns that
-// file; or notes why it doesn't.
+// Writes the WAD of these lumps, whose source is the old WAD, into a new file, which replaces the one at its path once
+// it is whole, and returns that file; or notes why it doesn't.
 fn put_wad<E: Files, F: Write + OpenFile + Drop>(
     rt: &E,
-    kind: &[u8],
+    wad: &Wad<'_>,
     lumps: &LumpList<'_>,
     mut new: NewFile<F>,
     why: &mut Option<Cause>,
 ) -> Result<F, Refusal>
-    requires kind { is_kind kind.now ≡ true }
-    requires fits { wad_size lumps.now < 4294967296 }
+    requires { placed_size lumps.now < 4294967296 }
     ensures { MatchResult result
-        (λ file. Appends (F.contents (file_of new)) (F.contents file) (wad_of kind.now lumps.now)
-        × IsWadOf kind.now lumps.now (wad_of kind.now lumps.now)
-        × (length (wad_of kind.now lumps.now) ≡ wad_size lumps.now))
+        (λ file. IsListWritten (Some wad.now) (take 4 wad.now) lumps.now
+        (F.contents (file_of new)) (F.contents file))
         (λ refusal. refusal ≡ Refusal.Lines WriterFailed) }
 {
-    match lumps.write_to(kind, &mut new) {
+    let mut source = wad.bytes();
+    match lumps.write_to(wad.kind(), &mut source, &mut new) {
         Ok(()) => match new.put(rt) {
             Ok(file) => Ok(file),
             Err(cause) => {
@@ -248,7 +247,7 @@ where
             return Err(Refusal::Lines(EditorError::WriterFailed));
         }
     };
-    match put_wad(rt, from.wad.kind(), &lumps, new, why) {
+    match put_wad(rt, &from.wad, &lumps, new, why) {
         Ok(file) => Ok(Put { size, file }),
         Err(refusal) => Err(refusal),
     }

@@ -2,3 +2,4 @@ pub mod NameLemmas
 pub mod DirectoryLemmas
 pub mod WrittenLemmas
 pub mod DraftLemmas
+pub mod PlacedLemmas

@@ -5,3 +5,5 @@ pub mod Headers
 pub mod Lumps
 pub mod Drafts
 pub mod DraftFields
+pub mod Placed
+pub mod Listed

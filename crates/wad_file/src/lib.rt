@@ -4,13 +4,17 @@
 mod entry;
 mod error;
 mod fields;
+mod list;
 mod names;
+mod source;
 mod wad;
 mod writer;
 
 pub use entry::Entry;
-pub use error::WadError;
+pub use error::{CopyFailed, SourceFailed, WadError};
 pub use fields::{long_at, name_at};
+pub use list::LumpList;
 pub use names::is_asked;
+pub use source::Source;
 pub use wad::Wad;
 pub use writer::WadWriter;

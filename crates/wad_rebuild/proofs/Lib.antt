@@ -1,5 +1,4 @@
 pub mod MadeLemmas
-pub mod ListLemmas
 pub mod AddLemmas
 pub mod PartLemmas
 pub mod WholeLemmas

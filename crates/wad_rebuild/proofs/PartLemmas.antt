@@ -1,9 +1,11 @@
 -- The lumps of a WAD in their parts.
-use Rattle.std.proofs.Common.{◌≡◌, ◌≢◌, ◌∙◌, refl, sym, ap, subst, ℕ, zero, suc, ◌+◌, ◌-◌, ◌<◌, ◌≤◌, List, [], ◌∷◌, ◌++◌, length, get_or, take, drop, arith, append_assoc, false}
+use Rattle.std.proofs.Common.{◌≡◌, ◌≢◌, ◌∙◌, refl, sym, ap, subst, ℕ, zero, suc, ◌+◌, ◌-◌, ◌<◌, ◌≤◌, List, [], ◌∷◌, ◌++◌, length, get_or, take, drop, arith, append_assoc, length-take, length-drop, Bool, true, false, ◌&&◌, ltb-false, min}
+use Rattle.std.specs.Prelude.{nat_lt}
+use Rattle.std.proofs.lemmas.Bool.Decides.{nat_tests}
 use Rattle.std.proofs.lemmas.List.FromFn.{get_or-map-range_with_len, length-map-range_with_len}
 use Rattle.wad_levels.specs.Drawn.{level_lump}
 use Rattle.wad_levels.specs.Levels.{lump_names}
-use Rattle.wad_file.specs.Directory.{entry, is_outside, lump_count}
+use Rattle.wad_file.specs.Directory.{entry, is_outside, lump, lump_count}
 use Rattle.wad_levels.specs.declared.entries.LevelEntries.{LevelEntries}
 use Rattle.wad_file.proofs.DirectoryLemmas.{inside_at}
 use Rattle.lump_records.specs.declared.records.Name8.{Name8}
@@ -24,6 +26,29 @@ sizes_step wad k = let s : k + 1 ≡ suc k = omega arith in ap (sizes_below wad)
 pub stands : (wad : List ℕ) (k : ℕ) → HasLumps wad → k < lump_count wad → is_outside wad (entry wad k) ≡ false
 stands wad k h l = let z : 0 + k ≡ k = omega arith in rw z at (inside_at wad 0 (lump_count wad) k h l)
 
+lt_true : (a b : ℕ) → a < b → nat_lt a b ≡ true
+lt_true a b h = grind (arith, nat_tests)
+
+and_right : (a b : Bool) → a ≡ true → (a && b) ≡ false → b ≡ false
+and_right a b e f = ap (λ (x : Bool). x && b) (sym e) ∙ f
+
+-- so it is as long as its entry says
+pub lump_long : (wad : List ℕ) (k : ℕ) → HasLumps wad → k < lump_count wad → (entry wad k).size ≡ length (lump wad k)
+lump_long wad k h l =
+    let e = entry wad k in
+    let t = length-take e.size (drop e.at wad) in
+    let d = length-drop e.at wad in
+    by e.size refl (stands wad k h l) t d
+  where
+    by : (n : ℕ) → n ≡ (entry wad k).size → is_outside wad (entry wad k) ≡ false → length (take (entry wad k).size (drop (entry wad k).at wad)) ≡ min (entry wad k).size (length (drop (entry wad k).at wad))
+        → length (drop (entry wad k).at wad) ≡ length wad - (entry wad k).at → (entry wad k).size ≡ length (lump wad k)
+    by zero z o t d = omega (arith, z, t)
+    by (suc n) z o t d =
+        let some : nat_lt 0 (entry wad k).size ≡ true = lt_true 0 (entry wad k).size (omega (arith, z)) in
+        let in_it : nat_lt (length wad) ((entry wad k).at + (entry wad k).size) ≡ false = and_right (nat_lt 0 (entry wad k).size) _ some o in
+        let le : (entry wad k).at + (entry wad k).size ≤ length wad = ltb-false _ _ in_it in
+        omega (arith, le, t, d)
+
 -- ---- the lumps of entries one behind another
 pub between_long : (wad : List ℕ) (from end : ℕ) → length (lumps_between wad from end) ≡ end - from
 between_long wad from end = length-map-range_with_len (lump_at wad) from (end - from)
@@ -36,29 +61,29 @@ between_here : (wad : List ℕ) (from end k : ℕ) → from ≤ k → k < end �
 between_here wad from end k low high = let n = between_long wad from end in omega (arith, n)
 
 pub between_next :
-    (wad : List ℕ) (from end k : ℕ) (a b c : BoundedWad) → from ≤ k → k < end → AddsLumps a b (take (k - from) (lumps_between wad from end))
-    → AddsLumps b c (lump_at wad k ∷ []) → AddsLumps a c (take (k + 1 - from) (lumps_between wad from end))
+    (wad : List ℕ) (from end k : ℕ) (a b c : BoundedWad) → from ≤ k → k < end → AddsLumps wad a b (take (k - from) (lumps_between wad from end))
+    → AddsLumps wad b c (lump_at wad k ∷ []) → AddsLumps wad a c (take (k + 1 - from) (lumps_between wad from end))
 between_next wad from end k a b c low high p q =
     let s : k - from + 1 ≡ k + 1 - from = omega arith in
-    subst (λ (n : ℕ). AddsLumps a c (take n (lumps_between wad from end))) s
-    (add_next a b c (lumps_between wad from end) (k - from) (lump_at wad k) (between_here wad from end k low high) (between_at wad from end k (lump_at wad k) low high) p q)
+    subst (λ (n : ℕ). AddsLumps wad a c (take n (lumps_between wad from end))) s
+    (add_next wad a b c (lumps_between wad from end) (k - from) (lump_at wad k) (between_here wad from end k low high) (between_at wad from end k (lump_at wad k) low high) p q)
 
 pub between_refuses :
-    (wad : List ℕ) (from end k : ℕ) (a b : BoundedWad) (e : RebuildError) → from ≤ k → k < end → AddsLumps a b (take (k - from) (lumps_between wad from end))
+    (wad : List ℕ) (from end k : ℕ) (a b : BoundedWad) (e : RebuildError) → from ≤ k → k < end → AddsLumps wad a b (take (k - from) (lumps_between wad from end))
     → RefusesPut b (lump_at wad k ∷ []) e → RefusesPut a (lumps_between wad from end) e
 between_refuses wad from end k a b e low high p r =
-    refuse_next a b (lumps_between wad from end) (k - from) (lump_at wad k) e (between_here wad from end k low high) (between_at wad from end k (lump_at wad k) low high) p r
+    refuse_next wad a b (lumps_between wad from end) (k - from) (lump_at wad k) e (between_here wad from end k low high) (between_at wad from end k (lump_at wad k) low high) p r
 
-pub between_none : (xs : List Lump) (from : ℕ) (a : BoundedWad) → IsWithin a → AddsLumps a a (take (from - from) xs)
-between_none xs from a t =
+pub between_none : (wad : List ℕ) (xs : List Lump) (from : ℕ) (a : BoundedWad) → IsWithin a → AddsLumps wad a a (take (from - from) xs)
+between_none wad xs from a t =
     let z : from - from ≡ 0 = omega arith in
-    subst (λ (n : ℕ). AddsLumps a a (take n xs)) (sym z) (add_none a t)
+    subst (λ (n : ℕ). AddsLumps wad a a (take n xs)) (sym z) (add_none wad a t)
 
 pub between_all :
-    (wad : List ℕ) (from end k : ℕ) (a b : BoundedWad) → end ≤ k → AddsLumps a b (take (k - from) (lumps_between wad from end)) → AddsLumps a b (lumps_between wad from end)
+    (wad : List ℕ) (from end k : ℕ) (a b : BoundedWad) → end ≤ k → AddsLumps wad a b (take (k - from) (lumps_between wad from end)) → AddsLumps wad a b (lumps_between wad from end)
 between_all wad from end k a b h p =
     let n = between_long wad from end in
-    add_all a b (lumps_between wad from end) (k - from) (omega (arith, n)) p
+    add_all wad a b (lumps_between wad from end) (k - from) (omega (arith, n)) p
 
 -- ---- the ten lumps of a level that is built anew
 pub made_other :
@@ -89,26 +114,26 @@ ten_lump n d bytes = record { name = get_or lump_names n d; bytes = bytes }
 
 pub ten_next :
     (wad : List ℕ) (l : LevelEntries) (m : MadeLumps) (n : ℕ) (d : Name8) (bytes : List ℕ) (a b c : BoundedWad) → n < 10
-    → bytes ≡ get_or (ten_bytes wad l m) n [] → AddsLumps a b (take n (ten_lumps wad l m)) → AddsLumps b c (record { name = get_or lump_names n d; bytes = bytes } ∷ [])
-    → AddsLumps a c (take (n + 1) (ten_lumps wad l m))
+    → bytes ≡ get_or (ten_bytes wad l m) n [] → AddsLumps wad a b (take n (ten_lumps wad l m)) → AddsLumps wad b c (record { name = get_or lump_names n d; bytes = bytes } ∷ [])
+    → AddsLumps wad a c (take (n + 1) (ten_lumps wad l m))
 ten_next wad l m n d bytes a b c h g p q =
-    add_next a b c (ten_lumps wad l m) n (ten_lump n d bytes) h (named_at lump_names (ten_bytes wad l m) n d bytes (ten_lump n d bytes) refl h (sym g)) p q
+    add_next wad a b c (ten_lumps wad l m) n (ten_lump n d bytes) h (named_at lump_names (ten_bytes wad l m) n d bytes (ten_lump n d bytes) refl h (sym g)) p q
 
 pub ten_refuses :
     (wad : List ℕ) (l : LevelEntries) (m : MadeLumps) (n : ℕ) (d : Name8) (bytes : List ℕ) (a b : BoundedWad) (e : RebuildError) → n < 10
-    → bytes ≡ get_or (ten_bytes wad l m) n [] → AddsLumps a b (take n (ten_lumps wad l m)) → RefusesPut b (record { name = get_or lump_names n d; bytes = bytes } ∷ []) e
+    → bytes ≡ get_or (ten_bytes wad l m) n [] → AddsLumps wad a b (take n (ten_lumps wad l m)) → RefusesPut b (record { name = get_or lump_names n d; bytes = bytes } ∷ []) e
     → RefusesPut a (ten_lumps wad l m) e
 ten_refuses wad l m n d bytes a b e h g p r =
-    refuse_next a b (ten_lumps wad l m) n (ten_lump n d bytes) e h (named_at lump_names (ten_bytes wad l m) n d bytes (ten_lump n d bytes) refl h (sym g)) p r
+    refuse_next wad a b (ten_lumps wad l m) n (ten_lump n d bytes) e h (named_at lump_names (ten_bytes wad l m) n d bytes (ten_lump n d bytes) refl h (sym g)) p r
 
 -- ---- what was appended of a WAD up to the k-th entry, before the levels that are left
 pub record IsPutUpTo (wad : List ℕ) (levels left : List RebuiltLevel) (k : ℕ) (a b : BoundedWad) : Type 0 where
   pub done : List Lump
-  pub are : AddsLumps a b done
+  pub are : AddsLumps wad a b done
   pub whole : lumps_from wad 0 levels ≡ done ++ lumps_from wad k left
 
 pub begun_up_to : (wad : List ℕ) (levels : List RebuiltLevel) (a : BoundedWad) → IsWithin a → IsPutUpTo wad levels levels 0 a a
-begun_up_to wad levels a t = record { done = []; are = add_none a t; whole = refl }
+begun_up_to wad levels a t = record { done = []; are = add_none wad a t; whole = refl }
 
 from_step :
     (wad : List ℕ) (levels left more : List RebuiltLevel) (k : ℕ) (x : RebuiltLevel) (done : List Lump) → left ≡ x ∷ more
@@ -127,11 +152,11 @@ drop_at_level (l ∷ levels) (suc n) x h e = let s : suc n + 1 ≡ suc (n + 1) =
 
 pub up_to_next :
     (wad : List ℕ) (levels : List RebuiltLevel) (n k : ℕ) (x : RebuiltLevel) (a b c : BoundedWad) → n < length levels → get_or levels n x ≡ x
-    → IsPutUpTo wad levels (drop n levels) k a b → AddsLumps b c (lumps_up_to wad k x) → IsPutUpTo wad levels (drop (n + 1) levels) x.entries.gl_end a c
+    → IsPutUpTo wad levels (drop n levels) k a b → AddsLumps wad b c (lumps_up_to wad k x) → IsPutUpTo wad levels (drop (n + 1) levels) x.entries.gl_end a c
 up_to_next wad levels n k x a b c h e i p =
     record {
       done = i.done ++ lumps_up_to wad k x;
-      are = add_both a b c i.done (lumps_up_to wad k x) i.are p;
+      are = add_both wad a b c i.done (lumps_up_to wad k x) i.are p;
       whole = from_step wad levels (drop n levels) (drop (n + 1) levels) k x i.done (drop_at_level levels n x h e) i.whole;
     }
 
@@ -141,7 +166,7 @@ pub up_to_refuses :
 up_to_refuses wad levels n k x a b f h e i r =
     let w = from_step wad levels (drop n levels) (drop (n + 1) levels) k x i.done (drop_at_level levels n x h e) i.whole in
     subst (λ (l : List Lump). RefusesPut a l f) (sym w)
-    (refuse_front a (i.done ++ lumps_up_to wad k x) (lumps_from wad x.entries.gl_end (drop (n + 1) levels)) f (refuse_behind a b i.done (lumps_up_to wad k x) f i.are r))
+    (refuse_front a (i.done ++ lumps_up_to wad k x) (lumps_from wad x.entries.gl_end (drop (n + 1) levels)) f (refuse_behind wad a b i.done (lumps_up_to wad k x) f i.are r))
 
 drop_none : (levels : List RebuiltLevel) (n : ℕ) → length levels ≤ n → drop n levels ≡ []
 drop_none [] zero h = refl
@@ -156,12 +181,12 @@ end_whole wad levels n k a b i h = i.whole ∙ ap (λ (ls : List RebuiltLevel). 
 
 pub up_to_end :
     (wad : List ℕ) (levels : List RebuiltLevel) (n k : ℕ) (a b c : BoundedWad) → length levels ≤ n → IsPutUpTo wad levels (drop n levels) k a b
-    → AddsLumps b c (lumps_between wad k (lump_count wad)) → AddsLumps a c (lumps_from wad 0 levels)
+    → AddsLumps wad b c (lumps_between wad k (lump_count wad)) → AddsLumps wad a c (lumps_from wad 0 levels)
 up_to_end wad levels n k a b c h i p =
-    subst (λ (l : List Lump). AddsLumps a c l) (sym (end_whole wad levels n k a b i h)) (add_both a b c i.done (lumps_between wad k (lump_count wad)) i.are p)
+    subst (λ (l : List Lump). AddsLumps wad a c l) (sym (end_whole wad levels n k a b i h)) (add_both wad a b c i.done (lumps_between wad k (lump_count wad)) i.are p)
 
 pub end_refuses :
     (wad : List ℕ) (levels : List RebuiltLevel) (n k : ℕ) (a b : BoundedWad) (f : RebuildError) → length levels ≤ n → IsPutUpTo wad levels (drop n levels) k a b
     → RefusesPut b (lumps_between wad k (lump_count wad)) f → RefusesPut a (lumps_from wad 0 levels) f
 end_refuses wad levels n k a b f h i r =
-    subst (λ (l : List Lump). RefusesPut a l f) (sym (end_whole wad levels n k a b i h)) (refuse_behind a b i.done (lumps_between wad k (lump_count wad)) f i.are r)
+    subst (λ (l : List Lump). RefusesPut a l f) (sym (end_whole wad levels n k a b i h)) (refuse_behind wad a b i.done (lumps_between wad k (lump_count wad)) f i.are r)

@@ -5,7 +5,6 @@ pub mod Causes
 pub mod Errors
 pub mod Texts
 pub mod Rebuilt
-pub mod Listed
 pub mod Parts
 pub mod Whole
 pub mod ReadBack

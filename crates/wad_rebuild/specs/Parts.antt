@@ -1,7 +1,8 @@
 -- The parts in which the lumps of a WAD are appended, and when a WAD would be too long.
-use Rattle.std.specs.Prelude.{◌≡◌, ℕ, ◌+◌, ◌*◌, ◌<◌, ◌≤◌, true, List, ◌++◌, length}
+use Rattle.std.specs.Prelude.{◌≡◌, ℕ, ◌+◌, ◌*◌, ◌<◌, ◌≤◌, true, List, [], ◌∷◌, ◌++◌, length}
 use Rattle.wad_file.specs.Directory.{are_inside, lump_count}
-use Rattle.wad_file.specs.Lumps.{Lump, all_bytes, lumps_between, wad_size}
+use Rattle.wad_file.specs.Lumps.{Lump, all_bytes, lumps_between}
+use Rattle.wad_file.specs.Placed.{Placed, lumps_over, placed_size}
 use Rattle.wad_rebuild.specs.Rebuilt.{lumps_after}
 use Rattle.wad_rebuild.specs.declared.error.RebuildError.{RebuildError}
 use Rattle.wad_rebuild.specs.declared.error.RebuildError.TheVariants.{TooLong, NotAWad, DirectoryOutside, NoSuchLevel, LumpOutside, OutOfMemory}
@@ -18,28 +19,37 @@ lumps_up_to wad k l = lumps_between wad k l.entries.marker ++ lumps_after wad l.
 
 -- the WAD has at most the bytes that it may have, fewer than four gigabytes
 pub record IsWithin (d : BoundedWad) : Type 0 where
-  pub fits : wad_size d.lumps ≤ d.most
+  pub fits : placed_size d.lumps ≤ d.most
   pub short : d.most < 4294967296
 
--- these lumps are appended, so the WAD grows by their bytes and entries, and it has at most the
--- bytes that it may have
-pub record AddsLumps (old new : BoundedWad) (lumps : List Lump) : Type 0 where
-  pub lumps_are : new.lumps ≡ old.lumps ++ lumps
-  pub grows : wad_size new.lumps
-      ≡ wad_size old.lumps + length (all_bytes lumps) + 16 * length lumps
+-- this lump is listed, and the WAD has at most the bytes that it may have
+pub record ListsLump (old new : BoundedWad) (p : Placed) : Type 0 where
+  pub lumps_are : new.lumps ≡ old.lumps ++ p ∷ []
   pub fits : IsWithin new
   pub most_stays : new.most ≡ old.most
 
--- with these lumps the WAD would have more bytes than it may have
-abbrev pub Overfills : BoundedWad → List Lump → Type 0
-Overfills d lumps =
-    d.most < wad_size d.lumps + length (all_bytes lumps) + 16 * length lumps
+-- lumps that become these, if this WAD is their source, are listed, so the WAD grows by their bytes
+-- and entries, and it has at most the bytes that it may have
+pub record AddsLumps (wad : List ℕ) (old new : BoundedWad) (lumps : List Lump) : Type 0 where
+  pub lumps_are : lumps_over wad new.lumps ≡ lumps_over wad old.lumps ++ lumps
+  pub grows : placed_size new.lumps
+      ≡ placed_size old.lumps + length (all_bytes lumps) + 16 * length lumps
+  pub fits : IsWithin new
+  pub most_stays : new.most ≡ old.most
 
--- why they aren't appended
+-- with so many bytes and entries the WAD would have more bytes than it may have
+abbrev pub Overfills : BoundedWad → ℕ → ℕ → Type 0
+Overfills d bytes count = d.most < placed_size d.lumps + bytes + 16 * count
+
+-- why they aren't listed
+abbrev pub RefusesSize : BoundedWad → ℕ → ℕ → RebuildError → Type 0
+RefusesSize d bytes count TooLong = Overfills d bytes count
+RefusesSize d bytes count NotAWad = ⊥
+RefusesSize d bytes count DirectoryOutside = ⊥
+RefusesSize d bytes count NoSuchLevel = ⊥
+RefusesSize d bytes count LumpOutside = ⊥
+RefusesSize d bytes count OutOfMemory = Unit {0}
+
+-- the same of lumps
 abbrev pub RefusesPut : BoundedWad → List Lump → RebuildError → Type 0
-RefusesPut d lumps TooLong = Overfills d lumps
-RefusesPut d lumps NotAWad = ⊥
-RefusesPut d lumps DirectoryOutside = ⊥
-RefusesPut d lumps NoSuchLevel = ⊥
-RefusesPut d lumps LumpOutside = ⊥
-RefusesPut d lumps OutOfMemory = Unit {0}
+RefusesPut d lumps e = RefusesSize d (length (all_bytes lumps)) (length lumps) e

@@ -3,6 +3,7 @@ use Rattle.std.specs.Prelude.{◌≡◌, ℕ, ◌<◌, ◌≤◌, List, All, Som
 use Rattle.wad_levels.specs.Entries.{AreLevels, IsLevelAt}
 use Rattle.wad_levels.specs.declared.entries.LevelEntries.{LevelEntries}
 use Rattle.wad_file.specs.Lumps.{IsWadOf, Lump, wad_size}
+use Rattle.wad_file.specs.Placed.{Placed, lumps_over, placed_size}
 use Rattle.wad_rebuild.specs.Parts.{HasLumps}
 use Rattle.wad_rebuild.specs.Rebuilt.{AreRebuilt, greatest_size, lumps_refusal, rebuilt_lumps, whole_refusal}
 use Rattle.wad_rebuild.specs.declared.error.RebuildError.{RebuildError}
@@ -48,9 +49,10 @@ pub record IsAcceptedWith (wad : List ℕ) (names : List (List ℕ))
   pub levels_are : AreRebuilt wad names levels
   pub ready : AreReady wad levels
 
--- the lumps are those of the WAD after what became of its levels, and with them it has at most the
--- bytes that it may have
-pub record IsListOf (wad : List ℕ) (levels : List RebuiltLevel) (lumps : List Lump) : Type 0 where
-  pub lumps_are : lumps ≡ rebuilt_lumps wad levels
-  pub fits : wad_size lumps ≤ greatest_size wad
-  pub short : wad_size lumps < 4294967296
+-- the lumps are those of the WAD after what became of its levels, if this WAD is their source, and
+-- with them it has at most the bytes that it may have
+pub record IsListOf (wad : List ℕ) (levels : List RebuiltLevel) (lumps : List Placed) : Type 0 where
+  pub lumps_are : lumps_over wad lumps ≡ rebuilt_lumps wad levels
+  pub size_is : placed_size lumps ≡ wad_size (rebuilt_lumps wad levels)
+  pub fits : placed_size lumps ≤ greatest_size wad
+  pub short : placed_size lumps < 4294967296

@@ -7,7 +7,6 @@ mod front;
 mod kept;
 mod laws;
 mod levels;
-mod list;
 mod made;
 mod parts;
 mod remade;
@@ -22,7 +21,6 @@ pub use laws::{
     rebuilt_lumps_are_the_builds, rebuilt_maps_are_built,
 };
 pub use levels::{Fate, RebuiltLevel};
-pub use list::LumpList;
 pub use made::MadeLumps;
 pub use remade::remake;
 pub use whole::{AcceptedWad, RebuiltWad, list_lumps, rebuild_levels, rebuild_wad};

@@ -1,32 +1,32 @@
 //! Appends the lumps of a WAD in their order, with new ones for the levels that are built anew.
-ghost use Rattle.std.specs.Prelude.{◌≡◌, ◌<◌, ◌≤◌, [], ◌∷◌, All, MatchResult, get_or};
+ghost use Rattle.std.specs.Prelude.{◌≡◌, ◌<◌, ◌≤◌, [], ◌∷◌, All, MatchResult, get_or, length};
 ghost use Rattle.wad_levels.specs.Entries.{IsLevelAt};
-ghost use Rattle.wad_file.specs.Directory.{lump, lump_count};
+ghost use Rattle.wad_file.specs.Directory.{lump_count};
 ghost use Rattle.wad_file.specs.Lumps.{lump_at, lumps_between};
-ghost use Rattle.wad_rebuild.specs.Parts.{AddsLumps, HasLumps, IsWithin, RefusesPut, lumps_up_to};
+ghost use Rattle.wad_file.specs.Placed.{AtHand, InSource};
+ghost use Rattle.wad_rebuild.specs.Parts.{AddsLumps, HasLumps, IsWithin, ListsLump, RefusesPut, RefusesSize, lumps_up_to};
 ghost use Rattle.wad_rebuild.specs.Rebuilt.{lumps_after, made_lumps, rebuilt_lumps, ten_bytes, ten_lumps};
 
 use crate::error::RebuildError;
 use crate::levels::{Fate, RebuiltLevel};
-use crate::list::LumpList;
 use crate::made::MadeLumps;
 use lump_records::Name8;
-use wad_file::Wad;
+use wad_file::{Entry, LumpList, Wad};
 use wad_levels::{LUMP_NAMES, LevelEntries, level_lump};
 
-/// The lumps of a WAD that may have `most` bytes.
+/// The lumps of a WAD that may have `most` bytes. Their source is the old WAD.
 #[derive(Drop)]
 pub struct BoundedWad<'a> {
     pub lumps: LumpList<'a>,
     pub most: u64,
 }
 
-// Appends a lump.
+// ListsLump a lump that is at hand.
 fn put_lump<'a>(to: &mut BoundedWad<'a>, name: Name8, bytes: &'a [u8]) -> Result<(), RebuildError>
     requires { IsWithin to.old }
     ensures { MatchResult result
-        (λ _. AddsLumps to.old to.new (record { name = name; bytes = bytes.now } ∷ []))
-        (RefusesPut to.old (record { name = name; bytes = bytes.now } ∷ [])) }
+        (λ _. ListsLump to.old to.new (record { name = name; content = AtHand bytes.now }))
+        (RefusesSize to.old (length bytes.now) 1) }
 {
     if !to.lumps.has_room(bytes.len(), to.most) {
         return Err(RebuildError::TooLong);
@@ -37,39 +37,50 @@ fn put_lump<'a>(to: &mut BoundedWad<'a>, name: Name8, bytes: &'a [u8]) -> Result
     }
 }
 
-// The bytes of the k-th entry's lump, which is inside the file.
-fn lump_of<'a>(wad: &Wad<'a>, k: u32) -> &'a [u8]
-    requires wad { HasLumps wad.now }
-    requires among { k < lump_count wad.now }
-    ensures { result.now ≡ lump wad.now k }
+// ListsLump the lump of an entry of the old WAD, where it stands.
+fn put_part(to: &mut BoundedWad<'_>, entry: Entry) -> Result<(), RebuildError>
+    requires { IsWithin to.old }
+    ensures { MatchResult result
+        (λ _. ListsLump to.old to.new
+        (record { name = entry.name; content = InSource entry.at entry.size }))
+        (RefusesSize to.old entry.size 1) }
 {
-    wad.standing(k)
+    if !to.lumps.has_room(entry.size as usize, to.most) {
+        return Err(RebuildError::TooLong);
+    }
+    match to.lumps.push_part(entry.name, entry.at, entry.size) {
+        Ok(()) => Ok(()),
+        Err(_) => Err(RebuildError::OutOfMemory),
+    }
 }
 
 // Appends the lump of the k-th entry.
-fn put_kept<'a>(wad: &Wad<'a>, k: u32, to: &mut BoundedWad<'a>) -> Result<(), RebuildError>
+fn put_kept(wad: &Wad<'_>, k: u32, to: &mut BoundedWad<'_>) -> Result<(), RebuildError>
     requires wad { HasLumps wad.now }
     requires among { k < lump_count wad.now }
     requires fits { IsWithin to.old }
     ensures { MatchResult result
-        (λ _. AddsLumps to.old to.new (lump_at wad.now k ∷ []))
+        (λ _. AddsLumps wad.now to.old to.new (lump_at wad.now k ∷ []))
         (RefusesPut to.old (lump_at wad.now k ∷ [])) }
 {
-    put_lump(to, wad.name(k), lump_of(wad, k))
+    match put_part(to, wad.entry(k)) {
+        Ok(()) => Ok(()),
+        Err(error) => Err(error),
+    }
 }
 
 // Appends the lumps of the entries from `from` up to `end`, which isn't among them.
-fn put_between<'a>(
-    wad: &Wad<'a>,
+fn put_between(
+    wad: &Wad<'_>,
     from: u32,
     end: u32,
-    to: &mut BoundedWad<'a>,
+    to: &mut BoundedWad<'_>,
 ) -> Result<(), RebuildError>
     requires wad { HasLumps wad.now }
     requires among { end ≤ lump_count wad.now }
     requires fits { IsWithin to.old }
     ensures { MatchResult result
-        (λ _. AddsLumps to.old to.new (lumps_between wad.now from end))
+        (λ _. AddsLumps wad.now to.old to.new (lumps_between wad.now from end))
         (RefusesPut to.old (lumps_between wad.now from end)) }
 {
     for k in from..end {
@@ -109,7 +120,7 @@ fn put_ten<'a>(
     requires level { IsLevelAt wad.now level }
     requires fits { IsWithin to.old }
     ensures { MatchResult result
-        (λ _. AddsLumps to.old to.new (ten_lumps wad.now level made.now))
+        (λ _. AddsLumps wad.now to.old to.new (ten_lumps wad.now level made.now))
         (RefusesPut to.old (ten_lumps wad.now level made.now)) }
 {
     for n in 0..LUMP_NAMES.len() {
@@ -132,7 +143,7 @@ fn put_made<'a>(
     requires level { IsLevelAt wad.now level }
     requires fits { IsWithin to.old }
     ensures { MatchResult result
-        (λ _. AddsLumps to.old to.new (made_lumps wad.now level made.now))
+        (λ _. AddsLumps wad.now to.old to.new (made_lumps wad.now level made.now))
         (RefusesPut to.old (made_lumps wad.now level made.now)) }
 {
     match put_kept(wad, level.marker, to) {
@@ -155,7 +166,8 @@ fn put_level<'a>(
     requires level { IsLevelAt wad.now level.now.entries }
     requires fits { IsWithin to.old }
     ensures { MatchResult result
-        (λ _. AddsLumps to.old to.new (lumps_after wad.now level.now.entries level.now.fate))
+        (λ _. AddsLumps wad.now to.old to.new
+        (lumps_after wad.now level.now.entries level.now.fate))
         (RefusesPut to.old (lumps_after wad.now level.now.entries level.now.fate)) }
 {
     match &level.fate {
@@ -176,7 +188,7 @@ fn put_up_to<'a>(
     requires level { IsLevelAt wad.now level.now.entries }
     requires fits { IsWithin to.old }
     ensures { MatchResult result
-        (λ _. AddsLumps to.old to.new (lumps_up_to wad.now k level.now))
+        (λ _. AddsLumps wad.now to.old to.new (lumps_up_to wad.now k level.now))
         (RefusesPut to.old (lumps_up_to wad.now k level.now)) }
 {
     match put_between(wad, k, level.entries.marker, to) {
@@ -199,7 +211,7 @@ pub fn put_rebuilt<'a>(
     requires levels { All (λ l. IsLevelAt wad.now l.entries) levels.now }
     requires fits { IsWithin to.old }
     ensures { MatchResult result
-        (λ _. AddsLumps to.old to.new (rebuilt_lumps wad.now levels.now))
+        (λ _. AddsLumps wad.now to.old to.new (rebuilt_lumps wad.now levels.now))
         (RefusesPut to.old (rebuilt_lumps wad.now levels.now)) }
 {
     let mut next = 0;

@@ -5,11 +5,10 @@ ghost use Rattle.wad_rebuild.specs.Whole.{AreReady, IsAcceptedWad, IsAcceptedWit
 
 use crate::error::RebuildError;
 use crate::levels::{RebuiltLevel, have_levels, rebuilt_levels};
-use crate::list::LumpList;
 use crate::parts::{BoundedWad, put_rebuilt};
 use crate::sizes::{greatest_size, is_crowded};
 use std::alloc::Global;
-use wad_file::{Wad, WadError};
+use wad_file::{LumpList, Wad, WadError};
 use wad_levels::{LevelEntries, levels_in};
 
 /// A WAD whose levels were built anew, and what became of each of its levels, in the order of the directory.
@@ -102,8 +101,8 @@ pub fn rebuild_levels<'a>(
     }
 }
 
-/// The lumps of the WAD with its levels built anew, each where it stands: in the old WAD, or among what was made of a
-/// level.
+/// The lumps of the WAD with its levels built anew: what was made of a level is at hand, the others have their places
+/// in the old WAD, the source of the list.
 ///
 /// # Errors
 ///
@@ -147,7 +146,8 @@ fn written(alloc: Global, wad: &Wad<'_>, levels: &[RebuiltLevel]) -> Result<Vec<
         Ok(bytes) => bytes,
         Err(_) => return Err(RebuildError::OutOfMemory),
     };
-    match lumps.write_to(wad.kind(), &mut bytes) {
+    let mut source = wad.bytes();
+    match lumps.write_to(wad.kind(), &mut source, &mut bytes) {
         Ok(()) => Ok(bytes),
         Err(_) => Err(RebuildError::OutOfMemory),
     }

@@ -8,6 +8,5 @@ use Rattle.cli_rebuild.proofs.request.put_rebuilt.Goals as goal
 pub returns-in-Ok-put_wad : goal.returns-in-Ok-put_wad
 returns-in-Ok-put_wad g c =
     let wad = c.args.from.now.wad in
-    let put = c.in-Ok-put_wad.ensures in
-    put_into g.E.File.Write.contents wad c.kind.result.now c.args.from.now.levels.items c.in-Ok.lumps c.size-size.result (file_of c.in-Ok-open_new_of.new) c.in-Ok-put_wad.file
-    c.kind.ensures.bytes (subst (λ (ls : List RebuiltLevel). IsListOf wad ls c.in-Ok.lumps) c.deref.ensures.value c.in-Ok.ensures) c.size-size.ensures put.2 put.1 put.0
+    put_into g.E.File.Write.contents wad c.args.from.now.levels.items c.in-Ok.lumps c.size-size.result (file_of c.in-Ok-open_new_of.new) c.in-Ok-put_wad.file
+    (subst (λ (ls : List RebuiltLevel). IsListOf wad ls c.in-Ok.lumps) c.deref.ensures.value c.in-Ok.ensures) c.size-size.ensures c.in-Ok-put_wad.ensures

@@ -3,7 +3,7 @@ use Rattle.wad_rebuild.proofs.PartLemmas.{between_all, between_next, between_non
 use Rattle.wad_rebuild.proofs.parts.put_between.Goals as goal
 
 pub loop-k-init : goal.loop-k-init
-loop-k-init c = between_none (lumps_between c.args.wad.now c.args.from c.args.end) c.args.from c.args.to.now c.requires.fits
+loop-k-init c = between_none c.args.wad.now (lumps_between c.args.wad.now c.args.from c.args.end) c.args.from c.args.to.now c.requires.fits
 
 pub returns-in-Err : goal.returns-in-Err
 returns-in-Err c =

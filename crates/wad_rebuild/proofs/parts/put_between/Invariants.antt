@@ -5,4 +5,4 @@ use Rattle.wad_rebuild.specs.Parts.{AddsLumps}
 use Rattle.wad_rebuild.proofs.parts.put_between.Given as goal
 
 abbrev pub invariant-loop-k : goal.invariant-loop-k
-invariant-loop-k l = AddsLumps l.initial.to l.to (take (l.k - l.from) (lumps_between l.wad l.from l.end))
+invariant-loop-k l = AddsLumps l.wad l.initial.to l.to (take (l.k - l.from) (lumps_between l.wad l.from l.end))

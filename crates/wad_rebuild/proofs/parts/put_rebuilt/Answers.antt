@@ -20,7 +20,7 @@ loop-n-preserved c =
 pub returns-in-Ok-put_between : goal.returns-in-Ok-put_between
 returns-in-Ok-put_between c =
     up_to_end c.args.wad.now c.args.levels.now c.loop-n.n c.loop-n.next c.args.to.now c.loop-n.to c.put_between.new.to c.loop-n-test.false c.loop-n.invariant
-    (subst (λ (n : ℕ). AddsLumps c.loop-n.to c.put_between.new.to (lumps_between c.args.wad.now c.loop-n.next n)) c.count.ensures.count c.in-Ok-put_between.ensures)
+    (subst (λ (n : ℕ). AddsLumps c.args.wad.now c.loop-n.to c.put_between.new.to (lumps_between c.args.wad.now c.loop-n.next n)) c.count.ensures.count c.in-Ok-put_between.ensures)
 
 pub returns-in-Err-put_between : goal.returns-in-Err-put_between
 returns-in-Err-put_between c =

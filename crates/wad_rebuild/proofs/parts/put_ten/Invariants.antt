@@ -5,4 +5,4 @@ use Rattle.wad_rebuild.specs.Parts.{AddsLumps}
 use Rattle.wad_rebuild.proofs.parts.put_ten.Given as goal
 
 abbrev pub invariant-loop-n : goal.invariant-loop-n
-invariant-loop-n l = AddsLumps l.initial.to l.to (take l.n (ten_lumps l.wad l.fn.level l.made))
+invariant-loop-n l = AddsLumps l.wad l.initial.to l.to (take l.n (ten_lumps l.wad l.fn.level l.made))
