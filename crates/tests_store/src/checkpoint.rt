@@ -4,7 +4,11 @@ ghost use Rattle.std.specs.Prelude.{◌≡◌, ◌≤◌, ◌<◌, ◌+◌, ◌^
 ghost use Rattle.store_disk.specs.Stops.{Each};
 ghost use Rattle.store_slots.specs.Handles.{body_in, generation_in, generation_of, other_of, second_of, HasSomeSlots};
 
-use crate::expect::same;
+use crate::disks::{
+    Failing, bytes_from, cut, expect_bytes, failing, length as length_of, stopped, write,
+};
+use crate::expect::{bytes_of, number, part, same, small};
+use crate::small::empty_disk;
 use std::alloc::Global;
 use std::process::Abort;
 use std::test::Fail;
@@ -31,7 +35,7 @@ const JOURNAL_B: Area = Area {
     length: 512,
 };
 
-pub const OLD: &[u8] = b"the old body of 24 bytes";
+const OLD: &[u8] = b"the old body of 24 bytes";
 
 pub const NEW: &[u8] = b"the new body of 24 bytes";
 
@@ -65,57 +69,65 @@ fn turned<D: Disk>(
     filled.open_other(disk)
 }
 
+// Writes two slots and the first bytes of two journals, and syncs them.
+fn begin(disk: &mut MemoryDisk) -> Result<(), DeviceFault> {
+    first(disk, A, B, OLD)?;
+    write(disk, JOURNAL_A.base, &[7])?;
+    write(disk, JOURNAL_B.base, &[7])?;
+    disk.sync()
+}
+
 /// A synced file with two slots and the first bytes of two journals: slot A is live with `OLD`, and both journals begin
 /// with a 7.
 pub fn disk_with_old(alloc: Global) -> Result<MemoryDisk, Fail> {
-    let mut disk = MemoryDisk::new(alloc, 1024, 4096)?;
-    first(&mut disk, A, B, OLD)?;
-    disk.write_at(JOURNAL_A.base, &[7])?;
-    disk.write_at(JOURNAL_B.base, &[7])?;
-    disk.sync()?;
+    let mut disk = empty_disk(alloc)?;
+    begin(&mut disk)?;
     Ok(disk)
 }
 
 /// A slot as it is written: its gate, its generation, its length field, and its body.
-pub type Slot<'a> = (u8, u64, u32, &'a [u8]);
-
-fn put_down<D: Disk>(disk: &mut D, at: u64, slot: &Slot<'_>) -> Result<(), DeviceFault>
-    requires { at < 1000 }
-{
-    let (gate, generation, len, body) = *slot;
-    disk.write_at(at, &[gate])?;
-    disk.write_at(at + 1, &generation.to_le_bytes())?;
-    disk.write_at(at + 9, &len.to_le_bytes())?;
-    disk.write_at(at + 13, body)
+#[derive(Drop)]
+pub struct Slot<'a> {
+    gate: u8,
+    generation: u64,
+    len: u32,
+    body: &'a [u8],
 }
 
-/// A synced file that has these two slots and ends at `end`.
-pub fn disk_with(
-    alloc: Global,
-    a: &Slot<'_>,
-    b: &Slot<'_>,
-    end: usize,
-) -> Result<MemoryDisk, Fail> {
-    let mut whole = MemoryDisk::new(alloc, 1024, 4096)?;
-    put_down(&mut whole, A.base, a)?;
-    put_down(&mut whole, B.base, b)?;
-    whole.write_at(1000, &[0])?;
-    let bytes = bytes_from(alloc, &mut whole, 0, end)?;
-    let mut disk = MemoryDisk::new(alloc, 1024, 4096)?;
-    disk.write_at(0, &bytes)?;
-    disk.sync()?;
-    Ok(disk)
-}
-
-// Reads at most `n` bytes of the disk from an offset on; fewer if the file ends before.
-fn bytes_from<D: Disk>(alloc: Global, disk: &mut D, at: u64, n: usize) -> Result<Vec<u8>, Fail> {
-    let left = disk.len()?.saturating_sub(at);
-    let n = n.min(left as usize);
-    let mut bytes = vec![in alloc; 0; n]?;
-    if n > 0 {
-        disk.read(at, &mut bytes)?;
+/// The bytes of a body that has this word in a row.
+pub fn body_of(word: &str) -> &[u8] {
+    match word {
+        "old" => OLD,
+        "new" => NEW,
+        "-" => b"",
+        _ => word.as_bytes(),
     }
-    Ok(bytes)
+}
+
+// The next slot of a row.
+fn slot_of<'a>(rt: &impl Abort, left: &mut &'a str) -> Slot<'a> {
+    Slot {
+        gate: u8::try_from(number(rt, left)).unwrap_or(0),
+        generation: number(rt, left),
+        len: small(rt, left),
+        body: body_of(part(left, ' ')),
+    }
+}
+
+fn put_down<D: Disk>(disk: &mut D, at: u64, slot: &Slot<'_>) -> Result<(), DeviceFault> {
+    write(disk, at, &[slot.gate])?;
+    write(disk, at.saturating_add(1), &slot.generation.to_le_bytes())?;
+    write(disk, at.saturating_add(9), &slot.len.to_le_bytes())?;
+    write(disk, at.saturating_add(13), slot.body)
+}
+
+/// A synced file that has the next two slots of a row and ends at the offset behind them.
+pub fn disk_with(rt: &impl Abort, alloc: Global, left: &mut &str) -> Result<MemoryDisk, Fail> {
+    let mut whole = empty_disk(alloc)?;
+    put_down(&mut whole, A.base, &slot_of(rt, left))?;
+    put_down(&mut whole, B.base, &slot_of(rt, left))?;
+    write(&mut whole, 1000, &[0])?;
+    cut(alloc, &mut whole, number(rt, left) as usize)
 }
 
 // Makes the other slot live, with this body. Returns the slot that is live then, and its generation.
@@ -141,47 +153,48 @@ pub fn live<D: Disk>(
     body: &[u8],
 ) -> Result<Option<(u8, u64)>, CheckpointError> {
     let (slots, found) = opened(alloc, disk)?;
-    let told = (found.slot, found.generation);
-    let is_same = (slots.slot(), slots.generation()) == told && found.body.as_slice() == body;
-    Ok(if is_same { Some(told) } else { None })
+    Ok(live_in(&slots, &found, body))
 }
 
-// A disk with an injected fault.
-type Failing = FaultDisk<MemoryDisk>;
-
-fn failing(alloc: Global, k: u64, part: u32) -> Result<Failing, Fail> {
-    Ok(FaultDisk::new(MemoryDisk::new(alloc, 1024, 4096)?, k, part))
+// The same of what opening returned.
+fn live_in(slots: &Slots, found: &Found, body: &[u8]) -> Option<(u8, u64)> {
+    let told = (found.slot, found.generation);
+    if (slots.slot(), slots.generation()) == told && found.body.as_slice() == body {
+        Some(told)
+    } else {
+        None
+    }
 }
 
 // The first slots are written by three calls, without a sync. Slot 0 is live then, with generation 1.
 fn expect_first(rt: &impl Abort, disk: &mut Failing) -> Result<(), Fail> {
     let slots = first(disk, A, B, OLD)?;
-    let found = (slots.slot(), slots.generation(), disk.len());
+    let found = (slots.slot(), slots.generation(), length_of(disk));
     same(rt, &found, &(0, 1, Err(DeviceFault)));
     Ok(())
 }
 
 // No byte of the first slots is synced, but reads return all of them.
 fn expect_first_bytes(rt: &impl Abort, alloc: Global, disk: &mut Failing) -> Result<(), Fail> {
-    let synced = disk.inner().stop(alloc, Fill::Stable, false)?.len()?;
-    same(rt, &(synced, disk.len()?), &(0, 81));
-    let bytes = bytes_from(alloc, disk, 16, 37)?;
-    same(rt, &bytes.as_slice(), &FIRST);
-    let gate = bytes_from(alloc, disk, 80, 1)?;
-    same(rt, &gate.as_slice(), &[0].as_slice());
+    let synced = length_of(&mut stopped(alloc, disk.inner(), Fill::Stable, false)?)?;
+    same(rt, &(synced, length_of(disk)?), &(0, 81));
+    expect_bytes(rt, alloc, disk, "a first slot", 16, FIRST)?;
+    expect_bytes(rt, alloc, disk, "a closed gate", 80, "\0")
+}
+
+const FIRST: &str = "\u{a5}\x01\0\0\0\0\0\0\0\x18\0\0\0the old body of 24 bytes";
+
+// Both, and the slots are opened.
+fn expect_begun(rt: &impl Abort, alloc: Global, disk: &mut Failing) -> Result<(), Fail> {
+    expect_first(rt, disk)?;
+    expect_first_bytes(rt, alloc, disk)?;
+    same(rt, &live(alloc, disk, OLD)?, &Some((0, 1)));
     Ok(())
 }
 
-const FIRST: &[u8] = b"\xa5\x01\0\0\0\0\0\0\0\x18\0\0\0the old body of 24 bytes";
-
 #[test]
 fn writes_the_first_slots(rt: HostRuntime) -> Result<(), Fail> {
-    let mut disk = failing(rt.alloc(), 4, 0)?;
-    expect_first(&rt, &mut disk)?;
-    expect_first_bytes(&rt, rt.alloc(), &mut disk)?;
-    let found = live(rt.alloc(), &mut disk, OLD)?;
-    assert_eq!(rt; found, Some((0, 1)));
-    Ok(())
+    expect_begun(&rt, rt.alloc(), &mut failing(rt.alloc(), 4, 0)?)
 }
 
 #[test]
@@ -240,44 +253,48 @@ fn changes_by_five_calls_and_by_seven(rt: HostRuntime) -> Result<(), Fail> {
     for &(turns, k, want) in CALLS {
         let disk = disk_after(rt.alloc(), turns, NEW)?;
         let (mut disk, next) = changed(rt.alloc(), disk, turns, (k, 0))?;
-        let found = (turns, next, disk.len());
+        let found = (turns, next, length_of(&mut disk));
         same(&rt, &found, &(turns, Some(want), Err(DeviceFault)));
     }
     Ok(())
 }
 
-const STAGED_B: &[u8] = b"\0\x02\0\0\0\0\0\0\0\x18\0\0\0the new body of 24 bytes";
-
-const OPENED_B: &[u8] = b"\xa5\x02\0\0\0\0\0\0\0\x18\0\0\0the new body of 24 bytes";
-
-const CLOSED_A: &[u8] = b"\0\x01\0\0\0\0\0\0\0\x18\0\0\0the old body of 24 bytes";
-
-const STAGED_A: &[u8] = b"\0\x03\0\0\0\0\0\0\0\x18\0\0\0the new body of 24 bytes";
-
-const OPENED_A: &[u8] = b"\xa5\x03\0\0\0\0\0\0\0\x18\0\0\0the new body of 24 bytes";
-
 // How many changes come before one; the call k of it that fails, and how many bytes of its write are still written; an
 // offset, and the bytes that the file then has there. The first change writes the content and then its gate; the second
 // one closes an open slot first.
-#[rattlefmt::skip]
-const WRITES: &[(u32, u64, u32, u64, &[u8])] = &[
-    (0, 1, 0, 80, b"\0\0\0"), (0, 1, 1, 80, b"\0\x02\0"), (0, 1, 36, 80, STAGED_B), (0, 2, 0, 80, STAGED_B),
-    (0, 2, 0, 656, b"\x07"), (0, 2, 1, 656, b"\0"), (0, 3, 0, 656, b"\0"), (0, 4, 0, 80, STAGED_B),
-    (0, 4, 1, 80, OPENED_B), (0, 5, 0, 80, OPENED_B), (0, 5, 0, 16, b"\xa5\x01"), (0, 5, 0, 144, b"\x07"),
-    (1, 1, 0, 16, b"\xa5\x01"), (1, 1, 1, 16, CLOSED_A), (1, 2, 0, 16, CLOSED_A), (1, 3, 0, 16, CLOSED_A),
-    (1, 3, 36, 16, STAGED_A), (1, 4, 0, 16, STAGED_A), (1, 4, 0, 144, b"\x07"), (1, 4, 1, 144, b"\0"),
-    (1, 5, 0, 144, b"\0"), (1, 6, 0, 16, STAGED_A), (1, 6, 1, 16, OPENED_A), (1, 7, 0, 16, OPENED_A),
-    (1, 7, 0, 80, b"\xa5\x02"),
-];
+const WRITES: &str = "0 1 0 80 \0\0\0;0 1 1 80 \0\x02\0;\
+    0 1 36 80 \0\x02\0\0\0\0\0\0\0\x18\0\0\0the new body of 24 bytes;\
+    0 2 0 80 \0\x02\0\0\0\0\0\0\0\x18\0\0\0the new body of 24 bytes;\
+    0 2 0 656 \x07;0 2 1 656 \0;0 3 0 656 \0;\
+    0 4 0 80 \0\x02\0\0\0\0\0\0\0\x18\0\0\0the new body of 24 bytes;\
+    0 4 1 80 \u{a5}\x02\0\0\0\0\0\0\0\x18\0\0\0the new body of 24 bytes;\
+    0 5 0 80 \u{a5}\x02\0\0\0\0\0\0\0\x18\0\0\0the new body of 24 bytes;\
+    0 5 0 16 \u{a5}\x01;0 5 0 144 \x07;1 1 0 16 \u{a5}\x01;\
+    1 1 1 16 \0\x01\0\0\0\0\0\0\0\x18\0\0\0the old body of 24 bytes;\
+    1 2 0 16 \0\x01\0\0\0\0\0\0\0\x18\0\0\0the old body of 24 bytes;\
+    1 3 0 16 \0\x01\0\0\0\0\0\0\0\x18\0\0\0the old body of 24 bytes;\
+    1 3 36 16 \0\x03\0\0\0\0\0\0\0\x18\0\0\0the new body of 24 bytes;\
+    1 4 0 16 \0\x03\0\0\0\0\0\0\0\x18\0\0\0the new body of 24 bytes;\
+    1 4 0 144 \x07;1 4 1 144 \0;1 5 0 144 \0;\
+    1 6 0 16 \0\x03\0\0\0\0\0\0\0\x18\0\0\0the new body of 24 bytes;\
+    1 6 1 16 \u{a5}\x03\0\0\0\0\0\0\0\x18\0\0\0the new body of 24 bytes;\
+    1 7 0 16 \u{a5}\x03\0\0\0\0\0\0\0\x18\0\0\0the new body of 24 bytes;1 7 0 80 \u{a5}\x02";
+
+// The change of a row fails, and the file then has its bytes.
+fn expect_write(rt: &impl Abort, alloc: Global, row: &str) -> Result<(), Fail> {
+    let mut left = row;
+    let turns = small(rt, &mut left);
+    let call = (number(rt, &mut left), small(rt, &mut left));
+    let at = number(rt, &mut left);
+    let (mut disk, next) = changed(alloc, disk_after(alloc, turns, NEW)?, turns, call)?;
+    same(rt, &(row, next), &(row, None));
+    expect_bytes(rt, alloc, &mut disk, row, at, left)
+}
 
 #[test]
 fn writes_the_content_and_then_its_gate(rt: HostRuntime) -> Result<(), Fail> {
-    for &(turns, k, part, at, want) in WRITES {
-        let disk = disk_after(rt.alloc(), turns, NEW)?;
-        let (mut disk, next) = changed(rt.alloc(), disk, turns, (k, part))?;
-        let bytes = bytes_from(rt.alloc(), &mut disk, at, want.len())?;
-        let row = (turns, k, part, at);
-        same(&rt, &(row, next, bytes.as_slice()), &(row, None, want));
+    for row in WRITES.split(';') {
+        expect_write(&rt, rt.alloc(), row)?;
     }
     Ok(())
 }
@@ -327,7 +344,7 @@ fn expect_stop(
     turns: u32,
     done: bool,
 ) -> Result<(), Fail> {
-    let mut left = disk.stop(alloc, stop.0, stop.1)?;
+    let mut left = stopped(alloc, disk, stop.0, stop.1)?;
     expect_either(rt, alloc, &mut left, turns, done)
 }
 

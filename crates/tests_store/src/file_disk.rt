@@ -1,45 +1,77 @@
 //! Real files as disks, and files whose calls are interrupted or fail.
 
-use crate::disk::contents;
+use crate::disks::{bytes_from, length, write};
 use crate::expect::{holds, same};
-use std::alloc::Allocator;
+use std::alloc::Global;
 use std::cell::Cell;
 use std::fs::{File, Metadata, OpenFile, OpenOptions};
-use std::io::{Read, Seek, SeekFrom, Write};
 use std::os::unix::fs::FileExt;
+use std::process::Abort;
 use std::rt::Files;
 use std::test::Fail;
 use std::{fs, io};
 use store_disk::{DeviceFault, Disk, FileDisk};
 
+// The disk has these bytes, and a read of three bytes from an offset on goes beyond them.
+fn expect_file<F: FileExt + OpenFile>(
+    rt: &impl Abort,
+    alloc: Global,
+    disk: &mut FileDisk<F>,
+    want: &[u8],
+    at: u64,
+) -> Result<(), Fail> {
+    let read = bytes_from(alloc, disk, 0, 99)?;
+    same(rt, &read.as_slice(), &want);
+    let mut beyond = [0; 3];
+    same(rt, &disk.read(at, &mut beyond), &Err(DeviceFault));
+    Ok(())
+}
+
+// Makes calls of a new file.
+fn write_file<F: FileExt + OpenFile>(
+    rt: &impl Abort,
+    disk: &mut FileDisk<F>,
+) -> Result<(), DeviceFault> {
+    same(rt, &length(disk), &Ok(0));
+    write(disk, 2, &[1, 2, 3])?;
+    write(disk, 9, &[])?;
+    disk.sync()
+}
+
+// The same of the file at a path.
+fn make_file<R: Abort + Files<File = File>>(rt: &R, path: &str) -> Result<(), DeviceFault> {
+    let mut disk = FileDisk::open(rt, path, true)?;
+    write_file(rt, &mut disk)
+}
+
+// Opens that file again.
+fn expect_again<R: Abort + Files<File = File>>(
+    rt: &R,
+    alloc: Global,
+    path: &str,
+    new: bool,
+) -> Result<(), Fail> {
+    let mut disk = FileDisk::open(rt, path, new)?;
+    same(rt, &write(&mut disk, u64::MAX, &[1]), &Err(DeviceFault));
+    expect_file(rt, alloc, &mut disk, &[0, 0, 1, 2, 3], 4)
+}
+
+// No disk is opened at a path.
+fn expect_none<R: Abort + Files<File = File>>(rt: &R, path: &str, new: bool) {
+    holds(rt, FileDisk::open(rt, path, new).is_err());
+}
+
 #[test]
 fn keeps_a_real_file(rt: HostRuntime) -> Result<(), Fail> {
     let path = "leveled_disk_real_file";
     let _ = fs::remove_file(&rt, path);
-    holds(&rt, FileDisk::open(&rt, path, false).is_err());
-    let mut disk = FileDisk::open(&rt, path, true)?;
-    same(&rt, &disk.len(), &Ok(0));
-    disk.write_at(2, &[1, 2, 3])?;
-    disk.write_at(9, &[])?;
-    disk.sync()?;
-    for new in [true, false] {
-        let mut again = FileDisk::open(&rt, path, new)?;
-        let read = contents(rt.alloc(), &mut again)?;
-        same(
-            &rt,
-            &(new, read.as_slice()),
-            &(new, [0, 0, 1, 2, 3].as_slice()),
-        );
-        let mut beyond = [0; 2];
-        same(&rt, &again.read(4, &mut beyond), &Err(DeviceFault));
-        same(&rt, &again.write_at(u64::MAX, &[1]), &Err(DeviceFault));
-    }
+    expect_none(&rt, path, false);
+    make_file(&rt, path)?;
+    expect_again(&rt, rt.alloc(), path, true)?;
+    expect_again(&rt, rt.alloc(), path, false)?;
     fs::remove_file(&rt, path)?;
-    holds(&rt, FileDisk::open(&rt, ".", true).is_err());
-    holds(
-        &rt,
-        FileDisk::open(&rt, "leveled_disk_no_folder/a", true).is_err(),
-    );
+    expect_none(&rt, ".", true);
+    expect_none(&rt, "leveled_disk_no_folder/a", true);
     Ok(())
 }
 
@@ -101,137 +133,76 @@ impl OpenFile for Flaky<'_> {
     }
 }
 
-impl Read for Flaky<'_> {
-    fn read(&mut self, buf: &mut [u8]) -> io::Result<usize> {
-        self.file.read(buf)
-    }
-}
-
-impl Write for Flaky<'_> {
-    fn write(&mut self, buf: &[u8]) -> io::Result<usize> {
-        self.file.write(buf)
-    }
-
-    fn flush(&mut self) -> io::Result<()> {
-        self.file.flush()
-    }
-}
-
-impl Seek for Flaky<'_> {
-    fn seek(&mut self, to: SeekFrom) -> io::Result<u64> {
-        self.file.seek(to)
-    }
-}
-
-// A runtime whose files are flaky.
-#[derive(Drop)]
-struct FlakyFiles<'a> {
-    rt: &'a HostRuntime,
+// The disk of a new flaky file.
+fn flaky_disk<'a, R: Files<File = File>>(
+    rt: &R,
+    path: &str,
     syncs: &'a Cell<u32>,
-}
-
-fn unsupported<T>() -> io::Result<T> {
-    Err(io::ErrorKind::Unsupported.into())
-}
-
-impl<'a> Files for FlakyFiles<'a> {
-    type File = Flaky<'a>;
-
-    type Dir = File;
-
-    fn open_file(&self, how: &OpenOptions, path: &str) -> io::Result<Flaky<'a>> {
-        let file = how.open(self.rt, path)?;
-        Ok(Flaky {
+) -> io::Result<FileDisk<Flaky<'a>>> {
+    let _ = fs::remove_file(rt, path);
+    let mut how = OpenOptions::new();
+    let file = how.read(true).write(true).create(true).open(rt, path)?;
+    Ok(FileDisk::new(
+        Flaky {
             file,
             calls: Cell::new(0),
-            syncs: self.syncs,
-        })
-    }
+            syncs,
+        },
+        true,
+    ))
+}
 
-    fn open_dir(&self, _path: &str) -> io::Result<File> {
-        unsupported()
-    }
-
-    fn metadata(&self, _path: &str) -> io::Result<Metadata> {
-        unsupported()
-    }
-
-    fn symlink_metadata(&self, _path: &str) -> io::Result<Metadata> {
-        unsupported()
-    }
-
-    fn copy(&self, _from: &str, _to: &str) -> io::Result<u64> {
-        unsupported()
-    }
-
-    fn rename(&self, _from: &str, _to: &str) -> io::Result<()> {
-        unsupported()
-    }
-
-    fn remove_file(&self, _path: &str) -> io::Result<()> {
-        unsupported()
-    }
-
-    fn create_dir(&self, _path: &str) -> io::Result<()> {
-        unsupported()
-    }
-
-    fn remove_dir(&self, _path: &str) -> io::Result<()> {
-        unsupported()
-    }
-
-    fn remove_dir_all<B: Allocator>(&self, _alloc: B, _path: &str) -> io::Result<()> {
-        unsupported()
-    }
+// All bytes are written and read all the same.
+fn expect_goes_on<R: Abort + Files<File = File>>(
+    rt: &R,
+    alloc: Global,
+    path: &str,
+) -> Result<(), Fail> {
+    let syncs = Cell::new(0);
+    let mut disk = flaky_disk(rt, path, &syncs)?;
+    same(
+        rt,
+        &(write(&mut disk, 1, &[1, 2, 3]), disk.sync()),
+        &(Ok(()), Ok(())),
+    );
+    expect_file(rt, alloc, &mut disk, &[0, 1, 2, 3], 2)
 }
 
 #[test]
 fn goes_on_after_interrupted_and_short_calls(rt: HostRuntime) -> Result<(), Fail> {
     let path = "leveled_disk_flaky_file";
-    let _ = fs::remove_file(&rt, path);
-    let syncs = Cell::new(0);
-    let files = FlakyFiles {
-        rt: &rt,
-        syncs: &syncs,
-    };
-    let mut disk = FileDisk::open(&files, path, true)?;
-    disk.write_at(1, &[1, 2, 3])?;
-    disk.sync()?;
-    let read = contents(rt.alloc(), &mut disk)?;
-    same(&rt, &read.as_slice(), &[0, 1, 2, 3].as_slice());
-    let mut beyond = [0; 3];
-    same(&rt, &disk.read(2, &mut beyond), &Err(DeviceFault));
+    expect_goes_on(&rt, rt.alloc(), path)?;
     fs::remove_file(&rt, path)?;
     Ok(())
 }
 
-// `/dev/null` refuses a sync.
+// How the sync of `/dev/null` ends, which refuses it.
+fn synced_null(rt: &HostRuntime, writes: bool) -> Result<Result<(), DeviceFault>, Fail> {
+    let mut disk = FileDisk::new(fs::open(rt, "/dev/null")?, writes);
+    Ok(disk.sync())
+}
+
 #[test]
 fn reads_a_medium_without_syncs(rt: HostRuntime) -> Result<(), Fail> {
-    for &(writes, wanted) in &[(false, Ok(())), (true, Err(DeviceFault))] {
-        let mut disk = FileDisk::new(fs::open(&rt, "/dev/null")?, writes);
-        same(&rt, &(writes, disk.sync()), &(writes, wanted));
-    }
+    same(&rt, &synced_null(&rt, false)?, &Ok(()));
+    same(&rt, &synced_null(&rt, true)?, &Err(DeviceFault));
     Ok(())
+}
+
+// Each sync of a disk is one of its file.
+fn expect_syncs<D: Disk>(rt: &impl Abort, disk: &mut D, syncs: &Cell<u32>) {
+    let written = write(disk, 0, &[1]);
+    same(rt, &(written, syncs.get()), &(Ok(()), 0));
+    same(rt, &(disk.sync(), syncs.get()), &(Ok(()), 1));
+    same(rt, &disk.sync(), &Err(DeviceFault));
+    same(rt, &(disk.sync(), syncs.get()), &(Ok(()), 3));
 }
 
 #[test]
 fn syncs_its_file(rt: HostRuntime) -> Result<(), Fail> {
     let path = "leveled_disk_synced_file";
-    let _ = fs::remove_file(&rt, path);
     let syncs = Cell::new(0);
-    let files = FlakyFiles {
-        rt: &rt,
-        syncs: &syncs,
-    };
-    let mut disk = FileDisk::open(&files, path, true)?;
-    disk.write_at(0, &[1])?;
-    same(&rt, &syncs.get(), &0);
-    disk.sync()?;
-    same(&rt, &syncs.get(), &1);
-    same(&rt, &disk.sync(), &Err(DeviceFault));
-    disk.sync()?;
-    same(&rt, &syncs.get(), &3);
-    fs::remove_file(&rt, path)?;
+    expect_syncs(&rt, &mut flaky_disk(&rt, path, &syncs)?, &syncs);
+    let _ = fs::remove_file(&rt, path);
     Ok(())
 }

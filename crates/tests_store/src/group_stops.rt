@@ -2,10 +2,12 @@
 ghost use Rattle.std.specs.Prelude.{◌<◌, length};
 ghost use Rattle.store_journal.specs.State.{IsReadyIn};
 
+use crate::disks::{Failing, stopped};
 use crate::expect::same;
-use crate::journal::{Failing, expect_bytes, is_opened_with};
+use crate::journal::{expect_bytes, is_opened_with};
 use crate::journal_stops::disk_with_first;
 use crate::ready::{blanked, opened};
+use crate::small::{FILLS, empty_disk};
 use std::alloc::Global;
 use std::process::Abort;
 use std::test::Fail;
@@ -64,15 +66,18 @@ fn expect_left<D: Disk>(
     Ok(())
 }
 
-// What a stop may leave in place of bytes that weren't synced.
-const FILLS: &[Fill] = &[
-    Fill::Stable,
-    Fill::Written,
-    Fill::Byte(0),
-    Fill::Byte(165),
-    Fill::Upto(1),
-    Fill::Upto(7),
-];
+// The same for a stop.
+fn expect_stop(
+    rt: &impl Abort,
+    alloc: Global,
+    disk: &MemoryDisk,
+    many: &Many,
+    done: bool,
+    stop: &Stop,
+) -> Result<(), Fail> {
+    let mut left = stopped(alloc, disk, stop.2, stop.3)?;
+    Ok(expect_left(rt, alloc, &mut left, many, done, stop)?)
+}
 
 // The same for stops with each fill, and the longest and the shortest image.
 fn expect_stops(
@@ -84,24 +89,8 @@ fn expect_stops(
     call: (u64, u32),
 ) -> Result<(), Fail> {
     for &fill in FILLS {
-        let mut short = disk.stop(alloc, fill, false)?;
-        expect_left(
-            rt,
-            alloc,
-            &mut short,
-            many,
-            done,
-            &(call.0, call.1, fill, false),
-        )?;
-        let mut long = disk.stop(alloc, fill, true)?;
-        expect_left(
-            rt,
-            alloc,
-            &mut long,
-            many,
-            done,
-            &(call.0, call.1, fill, true),
-        )?;
+        expect_stop(rt, alloc, disk, many, done, &(call.0, call.1, fill, false))?;
+        expect_stop(rt, alloc, disk, many, done, &(call.0, call.1, fill, true))?;
     }
     Ok(())
 }
@@ -198,32 +187,35 @@ fn append_twice<D: Disk>(
     Ok([first, second])
 }
 
-// The same of a group with these payloads: the bytes that the area then has, and how each append ended.
+// The same of a group with these payloads: how each append ended.
 fn expect_twice(
     rt: &impl Abort,
     alloc: Global,
+    disk: &mut MemoryDisk,
     payloads: &[&[u8]],
     wanted: &[Result<(), JournalError>; 2],
-    bytes: &[u8],
 ) -> Result<(), Fail> {
-    let mut disk = MemoryDisk::new(alloc, 1024, 4096)?;
     let group = group_with(alloc, payloads)?;
     if group.is_empty() {
         return Ok(());
     }
-    same(rt, &append_twice(&mut disk, &group)?, wanted);
-    expect_bytes(rt, alloc, &mut disk, 144, bytes)
+    same(rt, &append_twice(disk, &group)?, wanted);
+    Ok(())
 }
 
 #[test]
 fn appends_a_group_as_a_whole(rt: HostRuntime) -> Result<(), Fail> {
+    let mut disk = empty_disk(rt.alloc())?;
     expect_twice(
         &rt,
         rt.alloc(),
+        &mut disk,
         &[b"a", b"", b"bc"],
         &[Ok(()), Ok(())],
-        b"\xa5\x01\0\0\0a\xa5\0\0\0\0\xa5\x02\0\0\0bc\xa5\x01\0\0\0a\xa5\0\0\0\0\xa5\x02\0\0\0bc\0",
-    )
+    )?;
+    let bytes =
+        b"\xa5\x01\0\0\0a\xa5\0\0\0\0\xa5\x02\0\0\0bc\xa5\x01\0\0\0a\xa5\0\0\0\0\xa5\x02\0\0\0bc\0";
+    expect_bytes(&rt, rt.alloc(), &mut disk, 144, bytes)
 }
 
 // Twice this payload and its record's six other bytes are more than the 512 of the area.
@@ -231,14 +223,9 @@ const HALF: &[u8; 251] = &[b'x'; 251];
 
 #[test]
 fn refuses_a_group_that_does_not_fit(rt: HostRuntime) -> Result<(), Fail> {
-    let mut disk = MemoryDisk::new(rt.alloc(), 1024, 4096)?;
-    let group = group_with(rt.alloc(), &[HALF])?;
-    if group.is_empty() {
-        return Ok(());
-    }
-    let ended = append_twice(&mut disk, &group)?;
-    assert_eq!(rt; ended, [Ok(()), Err(JournalError::JournalFull)]);
-    let is_one = is_opened_with(rt.alloc(), &mut disk, &[HALF])?;
-    assert!(rt; is_one);
+    let mut disk = empty_disk(rt.alloc())?;
+    let wanted = [Ok(()), Err(JournalError::JournalFull)];
+    expect_twice(&rt, rt.alloc(), &mut disk, &[HALF], &wanted)?;
+    same(&rt, &is_opened_with(rt.alloc(), &mut disk, &[HALF])?, &true);
     Ok(())
 }

@@ -1,26 +1,21 @@
 //! A journal's bytes, the payloads that it is opened with, and calls that fail.
 ghost use Rattle.std.specs.Prelude.{◌≤◌, length};
 
+use crate::disks::{Failing, bytes_from, failing, length as length_of, stopped, write};
 use crate::expect::same;
 use crate::ready::{AREA, blanked, opened, refreshed, reread};
+use crate::small::empty_disk;
 use std::alloc::Global;
 use std::process::Abort;
 use std::test::Fail;
 use store_disk::{Disk, FaultDisk, Fill, MemoryDisk};
 use store_journal::{Journal, JournalError, blank};
 
-/// A disk whose k-th call fails, none if `k` is 0, after the first `part` bytes of its write.
-pub type Failing = FaultDisk<MemoryDisk>;
-
-pub fn failing(alloc: Global, k: u64, part: u32) -> Result<Failing, Fail> {
-    Ok(FaultDisk::new(MemoryDisk::new(alloc, 1024, 4096)?, k, part))
-}
-
 // A synced disk with these bytes from the start of the journal's area on.
 fn disk_with(alloc: Global, bytes: &[u8]) -> Result<MemoryDisk, Fail> {
-    let mut disk = MemoryDisk::new(alloc, 1024, 4096)?;
-    disk.write_at(143, &[7])?;
-    disk.write_at(144, bytes)?;
+    let mut disk = empty_disk(alloc)?;
+    write(&mut disk, 143, &[7])?;
+    write(&mut disk, 144, bytes)?;
     disk.sync()?;
     Ok(disk)
 }
@@ -54,16 +49,6 @@ pub fn append<D: Disk>(alloc: Global, disk: &mut D, payload: &[u8]) -> Result<us
     Ok(journal.count())
 }
 
-// Reads the disk from an offset to its end.
-fn bytes_from<D: Disk>(alloc: Global, disk: &mut D, at: u64) -> Result<Vec<u8>, Fail> {
-    let n = disk.len()?.saturating_sub(at);
-    let mut bytes = vec![in alloc; 0; n as usize]?;
-    if n > 0 {
-        disk.read(at, &mut bytes)?;
-    }
-    Ok(bytes)
-}
-
 /// The disk has these bytes from an offset to its end.
 pub fn expect_bytes<D: Disk>(
     rt: &impl Abort,
@@ -72,7 +57,7 @@ pub fn expect_bytes<D: Disk>(
     at: u64,
     want: &[u8],
 ) -> Result<(), Fail> {
-    let bytes = bytes_from(alloc, disk, at)?;
+    let bytes = bytes_from(alloc, disk, at, usize::MAX)?;
     same(rt, &(at, bytes.as_slice()), &(at, want));
     Ok(())
 }
@@ -104,18 +89,16 @@ fn expect_line(rt: &impl Abort, alloc: Global, disk: &mut MemoryDisk) -> Result<
     Ok(())
 }
 
+// Both, and the bytes of the area between them.
+fn expect_lines(rt: &impl Abort, alloc: Global, disk: &mut MemoryDisk) -> Result<(), Fail> {
+    expect_first_line(rt, disk)?;
+    expect_bytes(rt, alloc, disk, 144, b"\xa5\x0a\0\0\0vertex 0 0\0")?;
+    expect_line(rt, alloc, disk)
+}
+
 #[test]
 fn appends_behind_a_closed_gate(rt: HostRuntime) -> Result<(), Fail> {
-    let mut disk = MemoryDisk::new(rt.alloc(), 1024, 4096)?;
-    expect_first_line(&rt, &mut disk)?;
-    expect_bytes(
-        &rt,
-        rt.alloc(),
-        &mut disk,
-        144,
-        b"\xa5\x0a\0\0\0vertex 0 0\0",
-    )?;
-    expect_line(&rt, rt.alloc(), &mut disk)
+    expect_lines(&rt, rt.alloc(), &mut empty_disk(rt.alloc())?)
 }
 
 // Bytes of the area, and the payloads that they stand for.
@@ -161,13 +144,18 @@ fn append_reread<D: Disk>(
     Ok(Some(journal.count()))
 }
 
+// Appends to an area that is read one by one, and opens it.
+fn expect_reread<D: Disk>(rt: &impl Abort, alloc: Global, disk: &mut D) -> Result<(), Fail> {
+    let kept = append_reread(disk, &[b"", b"b"], b"cd")?;
+    let is_longer = is_opened_with(alloc, disk, &[b"", b"b", b"cd"])?;
+    same(rt, &(kept, is_longer), &(Some(0), true));
+    Ok(())
+}
+
 #[test]
 fn reads_one_by_one(rt: HostRuntime) -> Result<(), Fail> {
     let mut disk = disk_with(rt.alloc(), b"\xa5\0\0\0\0\xa5\x01\0\0\0b\0")?;
-    let kept = append_reread(&mut disk, &[b"", b"b"], b"cd")?;
-    let is_longer = is_opened_with(rt.alloc(), &mut disk, &[b"", b"b", b"cd"])?;
-    assert_eq!(rt; (kept, is_longer), (Some(0), true));
-    Ok(())
+    expect_reread(&rt, rt.alloc(), &mut disk)
 }
 
 // Bytes of the area, and the offset where opening finds the damage.
@@ -224,18 +212,16 @@ fn expect_full(rt: &impl Abort, alloc: Global, disk: &mut MemoryDisk) -> Result<
     Ok(())
 }
 
+// Both, and the last record.
+fn expect_filled(rt: &impl Abort, alloc: Global, disk: &mut MemoryDisk) -> Result<(), Fail> {
+    fill(rt, alloc, disk)?;
+    expect_full(rt, alloc, disk)?;
+    expect_bytes(rt, alloc, disk, 639, b"\xa5\x0a\0\0\0name MAP01\0")
+}
+
 #[test]
 fn fills_the_area(rt: HostRuntime) -> Result<(), Fail> {
-    let mut disk = MemoryDisk::new(rt.alloc(), 1024, 8192)?;
-    fill(&rt, rt.alloc(), &mut disk)?;
-    expect_full(&rt, rt.alloc(), &mut disk)?;
-    expect_bytes(
-        &rt,
-        rt.alloc(),
-        &mut disk,
-        639,
-        b"\xa5\x0a\0\0\0name MAP01\0",
-    )
+    expect_filled(&rt, rt.alloc(), &mut empty_disk(rt.alloc())?)
 }
 
 // Blanks an area, which takes two device calls, and appends a record. Returns how the append ended.
@@ -265,7 +251,7 @@ fn expect_write(
     want: &[u8],
 ) -> Result<(), Fail> {
     let appended = append_first(disk)?;
-    let bytes = bytes_from(alloc, disk, 144)?;
+    let bytes = bytes_from(alloc, disk, 144, usize::MAX)?;
     same(
         rt,
         &(call, appended, bytes.as_slice()),
@@ -283,12 +269,16 @@ fn writes_the_record_and_then_its_gate(rt: HostRuntime) -> Result<(), Fail> {
     Ok(())
 }
 
+// The call behind an append to a blank area fails.
+fn expect_calls(rt: &impl Abort, disk: &mut Failing) -> Result<(), Fail> {
+    let appended = append_first(disk)?;
+    same(rt, &(appended, length_of(disk).is_err()), &(Ok(()), true));
+    Ok(())
+}
+
 #[test]
 fn makes_four_device_calls(rt: HostRuntime) -> Result<(), Fail> {
-    let mut disk = failing(rt.alloc(), 7, 0)?;
-    let appended = append_first(&mut disk)?;
-    assert_eq!(rt; (appended, disk.len().is_err()), (Ok(()), true));
-    Ok(())
+    expect_calls(&rt, &mut failing(rt.alloc(), 7, 0)?)
 }
 
 // A disk with a journal of one record, whose k-th call fails.
@@ -297,21 +287,29 @@ fn failing_with_record(alloc: Global, k: u64) -> Result<Failing, Fail> {
     Ok(FaultDisk::new(disk, k, 0))
 }
 
+// The call behind an opening fails.
+fn expect_read(rt: &impl Abort, alloc: Global, disk: &mut Failing) -> Result<(), Fail> {
+    let is_a = is_opened_with(alloc, disk, &[b"a"])?;
+    same(rt, &(is_a, length_of(disk).is_err()), &(true, true));
+    Ok(())
+}
+
 #[test]
 fn opens_by_its_reads_alone(rt: HostRuntime) -> Result<(), Fail> {
     // Five calls: the test's own sync, the length of the disk, the record's gate and length, its payload, the last
     // gate.
-    let mut disk = failing_with_record(rt.alloc(), 6)?;
-    let is_a = is_opened_with(rt.alloc(), &mut disk, &[b"a"])?;
-    assert_eq!(rt; (is_a, disk.len().is_err()), (true, true));
-    Ok(())
+    expect_read(&rt, rt.alloc(), &mut failing_with_record(rt.alloc(), 6)?)
 }
 
 #[test]
 fn blanks_by_one_device_call(rt: HostRuntime) -> Result<(), Fail> {
     let mut disk = failing(rt.alloc(), 2, 0)?;
-    blank(&mut disk, AREA)?;
-    assert!(rt; disk.len().is_err());
+    let blanked = blank(&mut disk, AREA).is_ok();
+    same(
+        &rt,
+        &(blanked, length_of(&mut disk).is_err()),
+        &(true, true),
+    );
     Ok(())
 }
 
@@ -325,15 +323,14 @@ fn answers_a_device_that_fails(rt: HostRuntime) -> Result<(), Fail> {
         let device = Some(JournalError::Device);
         same(&rt, &(k, refused, is_a), &(k, device, true));
     }
-    let mut disk = failing(rt.alloc(), 1, 0)?;
-    let refused = blank(&mut disk, AREA).err();
-    assert_eq!(rt; refused, Some(JournalError::Device));
+    let refused = blank(&mut failing(rt.alloc(), 1, 0)?, AREA).err();
+    same(&rt, &refused, &Some(JournalError::Device));
     Ok(())
 }
 
 // A stop leaves the closed gate of such a journal, with the old record after it.
 fn expect_closed(rt: &impl Abort, alloc: Global, disk: &MemoryDisk) -> Result<(), Fail> {
-    let mut left = disk.stop(alloc, Fill::Stable, false)?;
+    let mut left = stopped(alloc, disk, Fill::Stable, false)?;
     expect_bytes(rt, alloc, &mut left, 143, b"\x07\0\x01\0\0\0a\0")
 }
 
@@ -343,29 +340,24 @@ fn expect_refreshed(rt: &impl Abort, alloc: Global, disk: &mut MemoryDisk) -> Re
     same(rt, &journal.room(), &Some(506));
     expect_closed(rt, alloc, disk)?;
     journal.append(disk, b"bc")?;
+    same(rt, &is_opened_with(alloc, disk, &[b"bc"])?, &true);
     Ok(())
 }
 
 #[test]
 fn blanks_a_journal(rt: HostRuntime) -> Result<(), Fail> {
     let mut disk = disk_with(rt.alloc(), b"\xa5\x01\0\0\0a\0")?;
-    expect_refreshed(&rt, rt.alloc(), &mut disk)?;
-    let is_bc = is_opened_with(rt.alloc(), &mut disk, &[b"bc"])?;
-    assert!(rt; is_bc);
-    Ok(())
+    expect_refreshed(&rt, rt.alloc(), &mut disk)
 }
-
-const CODES: &[(JournalError, u16)] = &[
-    (JournalError::Device, 30),
-    (JournalError::OutOfMemory, 31),
-    (JournalError::Reopen, 32),
-    (JournalError::JournalFull, 34),
-    (JournalError::Damaged { place: 144 }, 40),
-];
 
 #[test]
 fn numbers_its_refusals(rt: HostRuntime) {
-    for &(error, code) in CODES {
-        same(&rt, &(error, error.code()), &(error, code));
-    }
+    let found = [
+        JournalError::Device.code(),
+        JournalError::OutOfMemory.code(),
+        JournalError::Reopen.code(),
+        JournalError::JournalFull.code(),
+        JournalError::Damaged { place: 144 }.code(),
+    ];
+    same(&rt, &found, &[30, 31, 32, 34, 40]);
 }

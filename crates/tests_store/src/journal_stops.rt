@@ -1,9 +1,11 @@
 //! What stops leave of a journal when a call of an append fails.
 ghost use Rattle.store_journal.specs.State.{IsReadyIn};
 
+use crate::disks::{Failing, failing, stopped};
 use crate::expect::same;
-use crate::journal::{Failing, append, failing, is_opened_with};
+use crate::journal::{append, is_opened_with};
 use crate::ready::{blanked, opened};
+use crate::small::FILLS;
 use std::alloc::Global;
 use std::process::Abort;
 use std::test::Fail;
@@ -52,16 +54,6 @@ const ALL: &[&[u8]] = &[b"first", b"second", b"third"];
 
 const FIRST_AND_THIRD: &[&[u8]] = &[b"first", b"third"];
 
-// What a stop may leave in place of bytes that weren't synced.
-const FILLS: &[Fill] = &[
-    Fill::Stable,
-    Fill::Written,
-    Fill::Byte(0),
-    Fill::Byte(165),
-    Fill::Upto(1),
-    Fill::Upto(7),
-];
-
 // One stop leaves one record or both.
 fn expect_stop(
     rt: &impl Abort,
@@ -70,7 +62,7 @@ fn expect_stop(
     done: bool,
     stop: &Stop,
 ) -> Result<(), Fail> {
-    let mut left = disk.stop(alloc, stop.2, stop.3)?;
+    let mut left = stopped(alloc, disk, stop.2, stop.3)?;
     expect_left(rt, alloc, &mut left, done, stop)?;
     Ok(())
 }

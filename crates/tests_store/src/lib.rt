@@ -6,6 +6,8 @@ mod checkpoint;
 #[cfg(test)]
 mod disk;
 #[cfg(test)]
+mod disks;
+#[cfg(test)]
 mod expect;
 #[cfg(test)]
 mod file_disk;

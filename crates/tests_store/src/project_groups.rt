@@ -1,8 +1,9 @@
 //! Groups of a project's lines: what is answered to them, and what stops leave when a call of a put fails.
 ghost use Rattle.store_project.specs.Groups.{IsGroupFor};
 
+use crate::disks::{expect_bytes, length as length_of};
 use crate::expect::same;
-use crate::project::bytes_from;
+use crate::project::apply;
 use crate::project_stops::{expect_counts, failing};
 use crate::small::{SMALL, created, empty_disk, found, vertices};
 use map_commands::CommandError;
@@ -27,7 +28,7 @@ const LINES: &[Answer] = &[
 ];
 
 // What the accepted ones are in a journal.
-const RECORDS: &[u8] = b"\xa5\x0a\0\0\0vertex 0 0\xa5\x0a\0\0\0vertex 1 0\0";
+const RECORDS: &str = "\u{a5}\n\0\0\0vertex 0 0\u{a5}\n\0\0\0vertex 1 0\0";
 
 // Stages lines, and tests their answers. The project has none of them yet, and so many vertices.
 fn expect_staged<D: Disk>(
@@ -97,10 +98,8 @@ fn disk_after_put(rt: &impl Abort, alloc: Global, k: u64) -> Result<FaultDisk<Me
 #[test]
 fn puts_a_group_by_four_calls(rt: HostRuntime) -> Result<(), Fail> {
     let mut disk = disk_after_put(&rt, rt.alloc(), 13)?;
-    same(&rt, &disk.len(), &Err(DeviceFault));
-    let bytes = bytes_from(rt.alloc(), &mut disk, 144, RECORDS.len())?;
-    same(&rt, &bytes.as_slice(), &RECORDS);
-    Ok(())
+    same(&rt, &length_of(&mut disk), &Err(DeviceFault));
+    expect_bytes(&rt, rt.alloc(), &mut disk, "a group", 144, RECORDS)
 }
 
 // The ways in which the four calls can fail: the call, and how many bytes it still writes; and whether the group's
@@ -125,7 +124,10 @@ fn disk_after_fault(
     let mut project = failing(alloc, k, part)?;
     let ended = put_lines(rt, &mut project)?;
     same(rt, &(k, ended), &(k, (Err(ProjectError::Device), 0)));
-    let further = (project.apply(b"vertex 0 0"), project.begin_group().is_ok());
+    let further = (
+        apply(&mut project, b"vertex 0 0"),
+        project.begin_group().is_ok(),
+    );
     same(rt, &(k, further), &(k, (Err(ProjectError::Reopen), false)));
     Ok(project.into_disk())
 }
@@ -164,7 +166,7 @@ fn fill_and_apply<D: Disk>(rt: &impl Abort, project: &mut Project<D>) -> Result<
         &(project.put(group), project.generation()),
         &(Ok(()), 1),
     );
-    let answered = project.apply(b"name MAP01");
+    let answered = apply(project, b"name MAP01");
     same(rt, &(answered, project.generation()), &(Ok(0), 2));
     Ok(())
 }

@@ -1,8 +1,9 @@
 //! Calls that fail during the lines and checkpoints of a project, and what the project has when it is opened again.
 
-use crate::expect::same;
-use crate::project::bytes_from;
-use crate::small::{FILLS, SMALL, created, empty_disk, found, opened, vertices};
+use crate::disks::{expect_bytes, failing as failing_disk, length as length_of, stopped};
+use crate::expect::{number, same, small};
+use crate::project::{apply, apply_all, checkpoint};
+use crate::small::{FILLS, SMALL, created, found, opened, vertices};
 use std::alloc::Global;
 use std::process::Abort;
 use std::test::Fail;
@@ -14,7 +15,7 @@ pub type Failing = Project<FaultDisk<MemoryDisk>>;
 
 /// A new project whose k-th device call fails, after the first `part` bytes of its write.
 pub fn failing(alloc: Global, k: u64, part: u32) -> Result<Failing, Fail> {
-    Ok(created(alloc, FaultDisk::new(empty_disk(alloc)?, k, part), SMALL)?)
+    Ok(created(alloc, failing_disk(alloc, k, part)?, SMALL)?)
 }
 
 // The ways in which the four calls of an append can fail: the call, counted from the first one of `create`, and how
@@ -29,12 +30,12 @@ const FAULTS: &[(u64, u32, bool)] = &[
 
 // The first line of a project fails, and the project accepts nothing from then on.
 fn expect_closed<D: Disk>(rt: &impl Abort, project: &mut Project<D>) {
-    let failed = project.apply(b"vertex 0 0");
+    let failed = apply(project, b"vertex 0 0");
     same(rt, &failed, &Err(ProjectError::Device));
     same(rt, &(project.must_reopen(), vertices(project)), &(true, 0));
-    let further = [project.apply(b"vertex 1 0"), project.apply(b"no command")];
+    let further = [apply(project, b"vertex 1 0"), apply(project, b"no command")];
     same(rt, &further, &[Err(ProjectError::Reopen); 2]);
-    same(rt, &project.checkpoint(), &Err(ProjectError::Reopen));
+    same(rt, &checkpoint(project), &Err(ProjectError::Reopen));
 }
 
 #[test]
@@ -53,10 +54,8 @@ fn fail_in<D: Disk>(
     before: &[&[u8]],
     line: &[u8],
 ) -> Result<(), Fail> {
-    for earlier in before {
-        project.apply(*earlier)?;
-    }
-    assert_eq!(rt; project.apply(line), Err(ProjectError::Device));
+    apply_all(project, before)?;
+    same(rt, &apply(project, line), &Err(ProjectError::Device));
     Ok(())
 }
 
@@ -114,7 +113,7 @@ pub fn expect_counts(
 ) -> Result<(), Fail> {
     for &(fill, keeps) in KEEPS {
         let want = if keeps { new } else { old };
-        let left = disk.inner().stop(alloc, fill, true)?;
+        let left = stopped(alloc, disk.inner(), fill, true)?;
         same(rt, &(fill, counts(alloc, left)?), &(fill, want));
     }
     same(rt, &counts(alloc, disk)?, &new);
@@ -137,7 +136,7 @@ fn opens_again_after_a_fault(rt: HostRuntime) -> Result<(), Fail> {
 // A project of one vertex, whose k-th device call fails. The first 12 calls are those of `create` and of one append.
 fn one_vertex(alloc: Global, k: u64, part: u32) -> Result<Failing, Fail> {
     let mut project = failing(alloc, k, part)?;
-    project.apply(b"vertex 0 0")?;
+    apply(&mut project, b"vertex 0 0")?;
     Ok(project)
 }
 
@@ -147,7 +146,7 @@ const CALLS: &[(u64, &[u64])] = &[(18, &[2]), (25, &[2, 3])];
 // Takes checkpoints, and tests that they have these generations.
 fn take<D: Disk>(rt: &impl Abort, project: &mut Project<D>, generations: &[u64]) {
     for generation in generations {
-        let found = (project.checkpoint(), project.generation());
+        let found = (checkpoint(project), project.generation());
         same(rt, &found, &(Ok(*generation), *generation));
     }
 }
@@ -168,35 +167,27 @@ fn disk_of_taken(
 fn changes_its_slot_by_five_calls_and_by_seven(rt: HostRuntime) -> Result<(), Fail> {
     for &(k, generations) in CALLS {
         let mut disk = disk_of_taken(&rt, rt.alloc(), k, generations)?;
-        same(&rt, &(k, disk.len()), &(k, Err(DeviceFault)));
+        same(&rt, &(k, length_of(&mut disk)), &(k, Err(DeviceFault)));
     }
     Ok(())
 }
 
-const STAGED_B: &[u8] = b"\0\x02\0\0\0\0\0\0\0\x18\0\0\0\
-\x02\0MAP01\0\0\0\0\0\0\0\0\0\x01\0\0\0\0\0\0\0";
-
-const OPEN_B: &[u8] = b"\xa5\x02\0\0\0\0\0\0\0\x18\0\0\0\
-\x02\0MAP01\0\0\0\0\0\0\0\0\0\x01\0\0\0\0\0\0\0";
-
-const STAGED_A: &[u8] = b"\0\x03\0\0\0\0\0\0\0\x18\0\0\0\
-\x02\0MAP01\0\0\0\0\0\0\0\0\0\x01\0\0\0\0\0\0\0";
-
-const OPEN_A: &[u8] = b"\xa5\x03\0\0\0\0\0\0\0\x18\0\0\0\
-\x02\0MAP01\0\0\0\0\0\0\0\0\0\x01\0\0\0\0\0\0\0";
-
 // How many checkpoints come before one; the device call during it that fails, and how many bytes it still writes; an
 // offset, and the bytes that the file then has there. The first checkpoint fills slot B and opens it; the second one
 // closes slot A first.
-#[rattlefmt::skip]
-const WRITES: &[(u32, u64, u32, u64, &[u8])] = &[
-    (0, 13, 0, 80, b"\0\0\0"), (0, 13, 36, 80, STAGED_B), (0, 14, 0, 80, STAGED_B), (0, 16, 0, 80, STAGED_B),
-    (0, 16, 1, 80, OPEN_B), (0, 17, 0, 80, OPEN_B), (0, 17, 0, 16, b"\xa5\x01"), (0, 17, 0, 144, b"\xa5\x0a"),
-    (0, 17, 0, 656, b"\0"),
-    (1, 18, 0, 16, b"\xa5\x01"), (1, 18, 1, 16, b"\0\x01"), (1, 20, 0, 16, b"\0\x01"), (1, 20, 36, 16, STAGED_A),
-    (1, 21, 0, 144, b"\xa5\x0a"), (1, 21, 1, 144, b"\0\x0a"), (1, 23, 0, 16, STAGED_A), (1, 23, 1, 16, OPEN_A),
-    (1, 24, 0, 80, b"\xa5\x02"),
-];
+const WRITES: &str = "0 13 0 80 \0\0\0;\
+    0 13 36 80 \0\x02\0\0\0\0\0\0\0\x18\0\0\0\x02\0MAP01\0\0\0\0\0\0\0\0\0\x01\0\0\0\0\0\0\0;\
+    0 14 0 80 \0\x02\0\0\0\0\0\0\0\x18\0\0\0\x02\0MAP01\0\0\0\0\0\0\0\0\0\x01\0\0\0\0\0\0\0;\
+    0 16 0 80 \0\x02\0\0\0\0\0\0\0\x18\0\0\0\x02\0MAP01\0\0\0\0\0\0\0\0\0\x01\0\0\0\0\0\0\0;\
+    0 16 1 80 \u{a5}\x02\0\0\0\0\0\0\0\x18\0\0\0\x02\0MAP01\0\0\0\0\0\0\0\0\0\x01\0\0\0\0\0\0\0;\
+    0 17 0 80 \u{a5}\x02\0\0\0\0\0\0\0\x18\0\0\0\x02\0MAP01\0\0\0\0\0\0\0\0\0\x01\0\0\0\0\0\0\0;\
+    0 17 0 16 \u{a5}\x01;0 17 0 144 \u{a5}\n;0 17 0 656 \0;\
+    1 18 0 16 \u{a5}\x01;1 18 1 16 \0\x01;1 20 0 16 \0\x01;\
+    1 20 36 16 \0\x03\0\0\0\0\0\0\0\x18\0\0\0\x02\0MAP01\0\0\0\0\0\0\0\0\0\x01\0\0\0\0\0\0\0;\
+    1 21 0 144 \u{a5}\n;1 21 1 144 \0\n;\
+    1 23 0 16 \0\x03\0\0\0\0\0\0\0\x18\0\0\0\x02\0MAP01\0\0\0\0\0\0\0\0\0\x01\0\0\0\0\0\0\0;\
+    1 23 1 16 \u{a5}\x03\0\0\0\0\0\0\0\x18\0\0\0\x02\0MAP01\0\0\0\0\0\0\0\0\0\x01\0\0\0\0\0\0\0;\
+    1 24 0 80 \u{a5}\x02";
 
 // Takes `before` checkpoints, and one more, during which a call fails.
 fn fail_to_take<D: Disk>(
@@ -205,11 +196,11 @@ fn fail_to_take<D: Disk>(
     before: u32,
 ) -> Result<(), Fail> {
     for _ in 0..before {
-        project.checkpoint()?;
+        checkpoint(project)?;
     }
-    let found = (project.checkpoint(), project.must_reopen());
-    same(rt, &found, &(Err(ProjectError::Device), true));
-    same(rt, &vertices(project), &1);
+    let refused = checkpoint(project);
+    let found = (refused, project.must_reopen(), vertices(project));
+    same(rt, &found, &(Err(ProjectError::Device), true, 1));
     Ok(())
 }
 
@@ -226,12 +217,23 @@ fn failed_checkpoint(
     Ok(project.into_disk())
 }
 
+// The checkpoint of a row fails, and the file then has its bytes.
+fn expect_write(rt: &impl Abort, alloc: Global, row: &str) -> Result<(), Fail> {
+    let mut left = row;
+    let (before, k, kept) = (
+        small(rt, &mut left),
+        number(rt, &mut left),
+        small(rt, &mut left),
+    );
+    let at = number(rt, &mut left);
+    let mut disk = failed_checkpoint(rt, alloc, before, k, kept)?;
+    expect_bytes(rt, alloc, &mut disk, row, at, left)
+}
+
 #[test]
 fn fills_a_slot_and_then_opens_it(rt: HostRuntime) -> Result<(), Fail> {
-    for &(before, k, part, at, want) in WRITES {
-        let mut disk = failed_checkpoint(&rt, rt.alloc(), before, k, part)?;
-        let bytes = bytes_from(rt.alloc(), &mut disk, at, want.len())?;
-        same(&rt, &(k, part, at, bytes.as_slice()), &(k, part, at, want));
+    for row in WRITES.split(';') {
+        expect_write(&rt, rt.alloc(), row)?;
     }
     Ok(())
 }
@@ -250,8 +252,8 @@ fn expect_stops(
             Fill::Stable | Fill::Byte(0) => generations.0,
             _ => generations.1,
         };
-        let short = found(alloc, disk.inner().stop(alloc, fill, false)?)?;
-        let long = found(alloc, disk.inner().stop(alloc, fill, true)?)?;
+        let short = found(alloc, stopped(alloc, disk.inner(), fill, false)?)?;
+        let long = found(alloc, stopped(alloc, disk.inner(), fill, true)?)?;
         same(
             rt,
             &(fill, [short, long]),
@@ -263,23 +265,21 @@ fn expect_stops(
 
 // The device call of a checkpoint that fails, how many bytes it still writes, and the generation of the project when it
 // is opened again.
-const STOPS: &[(u64, u32, u64)] = &[
-    (13, 0, 1),
-    (13, 36, 1),
-    (14, 0, 1),
-    (14, 1, 1),
-    (15, 0, 1),
-    (16, 0, 1),
-    (16, 1, 2),
-    (17, 0, 2),
-];
+const STOPS: &str = "13 0 1;13 36 1;14 0 1;14 1 1;15 0 1;16 0 1;16 1 2;17 0 2";
 
 #[test]
 fn stops_within_a_checkpoint(rt: HostRuntime) -> Result<(), Fail> {
-    for &(k, part, generation) in STOPS {
-        let disk = failed_checkpoint(&rt, rt.alloc(), 0, k, part)?;
+    for row in STOPS.split(';') {
+        let mut left = row;
+        let (k, kept) = (number(&rt, &mut left), small(&rt, &mut left));
+        let generation = number(&rt, &mut left);
+        let disk = failed_checkpoint(&rt, rt.alloc(), 0, k, kept)?;
         expect_stops(&rt, rt.alloc(), &disk, 1, (1, generation))?;
-        assert_eq!(rt; found(rt.alloc(), disk)?, (1, generation));
+        same(
+            &rt,
+            &(row, found(rt.alloc(), disk)?),
+            &(row, (1, generation)),
+        );
     }
     Ok(())
 }
@@ -287,7 +287,7 @@ fn stops_within_a_checkpoint(rt: HostRuntime) -> Result<(), Fail> {
 // The disk of a project of one vertex after a checkpoint whose sync failed.
 fn unsynced_disk(alloc: Global) -> Result<FaultDisk<MemoryDisk>, Fail> {
     let mut project = one_vertex(alloc, 15, 0)?;
-    let _failed = project.checkpoint();
+    let _failed = checkpoint(&mut project);
     Ok(project.into_disk())
 }
 
@@ -300,13 +300,10 @@ fn failed_again(
 ) -> Result<FaultDisk<FaultDisk<MemoryDisk>>, Fail> {
     let disk = unsynced_disk(alloc)?;
     let mut project = opened(alloc, FaultDisk::new(disk, k, 1))?;
-    project.apply(b"vertex 1 1")?;
-    let refused = project.checkpoint();
-    assert_eq!(rt;
-        (refused, vertices(&project)),
-        (Err(ProjectError::Device), 2),
-        "{k}"
-    );
+    let applied = apply(&mut project, b"vertex 1 1");
+    let refused = checkpoint(&mut project);
+    let found = (k, applied.is_ok(), refused, vertices(&project));
+    same(rt, &found, &(k, true, Err(ProjectError::Device), 2));
     Ok(project.into_disk())
 }
 
@@ -319,7 +316,7 @@ fn stops_within_a_checkpoint_after_one_that_failed(rt: HostRuntime) -> Result<()
     for &(k, generation) in AGAIN {
         let disk = failed_again(&rt, rt.alloc(), k)?;
         expect_stops(&rt, rt.alloc(), disk.inner(), 2, (1, generation))?;
-        assert_eq!(rt; found(rt.alloc(), disk)?, (2, generation));
+        same(&rt, &(k, found(rt.alloc(), disk)?), &(k, (2, generation)));
     }
     Ok(())
 }

@@ -1,43 +1,38 @@
 //! Opening two slots: which one is live, where damage is found, and generations that are used up.
 
-use crate::checkpoint::{NEW, OLD, Slot, disk_with, disk_with_old, live, opened};
-use crate::expect::same;
+use crate::checkpoint::{NEW, body_of, disk_with, disk_with_old, live, opened};
+use crate::expect::{number, part, same, told};
 use std::alloc::Global;
+use std::process::Abort;
 use std::test::Fail;
 use store_disk::{Disk, FaultDisk, MemoryDisk};
 use store_slots::CheckpointError;
 
-const CLOSED: Slot<'static> = (0, 0, 0, b"");
+// Two slots, each with its gate, its generation, its length field and its body; where the file ends; the body that is
+// live, and the slot and the generation.
+const OPENED: &str = "165 1 1 a 0 0 0 - 81 a Some((0, 1))\n\
+    165 1 1 a 1 9 200 b 81 a Some((0, 1))\n\
+    165 2 1 a 165 1 1 b 200 a Some((0, 2))\n\
+    165 1 1 a 165 2 1 b 200 b Some((1, 2))\n\
+    0 3 255 a 165 2 1 b 200 b Some((1, 2))\n\
+    165 0 0 - 164 2 1 b 200 - Some((0, 0))\n\
+    165 7 51 xxxxxxxxxxxxxxxxxxxxxxxxxxxxxxxxxxxxxxxxxxxxxxxxxxx 0 0 0 - 81 \
+    xxxxxxxxxxxxxxxxxxxxxxxxxxxxxxxxxxxxxxxxxxxxxxxxxxx Some((0, 7))\n\
+    0 0 0 - 165 8 51 xxxxxxxxxxxxxxxxxxxxxxxxxxxxxxxxxxxxxxxxxxxxxxxxxxx 144 \
+    xxxxxxxxxxxxxxxxxxxxxxxxxxxxxxxxxxxxxxxxxxxxxxxxxxx Some((1, 8))";
 
-const LONGEST: &[u8] = &[b'x'; 51];
-
-// Two slots, where the file ends, and the slot, the generation and the body that are live.
-type Opened = (
-    Slot<'static>,
-    Slot<'static>,
-    usize,
-    (u8, u64),
-    &'static [u8],
-);
-
-#[rattlefmt::skip]
-const OPENED: &[Opened] = &[
-    ((165, 1, 1, b"a"), CLOSED, 81, (0, 1), b"a"),
-    ((165, 1, 1, b"a"), (1, 9, 200, b"b"), 81, (0, 1), b"a"),
-    ((165, 2, 1, b"a"), (165, 1, 1, b"b"), 200, (0, 2), b"a"),
-    ((165, 1, 1, b"a"), (165, 2, 1, b"b"), 200, (1, 2), b"b"),
-    ((0, 3, 255, b"a"), (165, 2, 1, b"b"), 200, (1, 2), b"b"),
-    ((165, 0, 0, b""), (164, 2, 1, b"b"), 200, (0, 0), b""),
-    ((165, 7, 51, LONGEST), CLOSED, 81, (0, 7), LONGEST),
-    (CLOSED, (165, 8, 51, LONGEST), 144, (1, 8), LONGEST),
-];
+// Opens the slots of a row.
+fn expect_opened(rt: &impl Abort, alloc: Global, row: &str) -> Result<(), Fail> {
+    let mut left = row;
+    let mut disk = disk_with(rt, alloc, &mut left)?;
+    let found = live(alloc, &mut disk, body_of(part(&mut left, ' ')))?;
+    told(rt, alloc, row, &found, left)
+}
 
 #[test]
 fn opens_the_greater_generation(rt: HostRuntime) -> Result<(), Fail> {
-    for (a, b, end, want, body) in OPENED {
-        let mut disk = disk_with(rt.alloc(), a, b, *end)?;
-        let found = live(rt.alloc(), &mut disk, *body)?;
-        same(&rt, &(a, b, end, found), &(a, b, end, Some(*want)));
+    for row in OPENED.split('\n') {
+        expect_opened(&rt, rt.alloc(), row)?;
     }
     Ok(())
 }
@@ -47,43 +42,39 @@ fn refusal_of<D: Disk>(alloc: Global, disk: &mut D) -> Option<CheckpointError> {
     opened(alloc, disk).err()
 }
 
-const WHOLE: Slot<'static> = (165, 1, 24, OLD);
+// Two slots, where the file ends, and how opening them is refused. In the first four lines the file is cut before slot
+// A, after its gate, within its head, and within its body; in the next four before slot B, and within it. Then a length
+// of 52 in either slot, even in the older one, though only 51 bytes fit; two open slots with the same generation; and
+// none open.
+const REFUSED: &str = "165 1 24 old 0 0 0 - 16 Some(Damaged { place: 16 })\n\
+    165 1 24 old 0 0 0 - 17 Some(Damaged { place: 16 })\n\
+    165 1 24 old 0 0 0 - 28 Some(Damaged { place: 16 })\n\
+    165 1 24 old 0 0 0 - 40 Some(Damaged { place: 16 })\n\
+    165 1 24 old 0 0 0 - 53 Some(Damaged { place: 80 })\n\
+    165 1 24 old 0 0 0 - 80 Some(Damaged { place: 80 })\n\
+    165 1 24 old 165 2 24 new 92 Some(Damaged { place: 80 })\n\
+    165 1 24 old 165 0 24 new 116 Some(Damaged { place: 80 })\n\
+    165 1 52 old 0 0 0 - 200 Some(Damaged { place: 16 })\n\
+    165 1 51 old 165 0 52 new 200 Some(Damaged { place: 80 })\n\
+    165 1 52 old 165 0 52 new 200 Some(Damaged { place: 16 })\n\
+    165 1 4294967295 old 0 0 0 - 200 Some(Damaged { place: 16 })\n\
+    165 4 24 old 165 4 20 new 200 Some(Damaged { place: 80 })\n\
+    165 4 52 old 165 4 20 new 200 Some(Damaged { place: 16 })\n\
+    0 4 24 old 7 5 24 new 200 Some(Blank)\n\
+    0 4 24 old 0 0 0 - 81 Some(Blank)";
 
-const AT_A: CheckpointError = CheckpointError::Damaged { place: 16 };
-
-const AT_B: CheckpointError = CheckpointError::Damaged { place: 80 };
-
-// Two slots, where the file ends, and how opening them is refused.
-#[rattlefmt::skip]
-const REFUSED: &[(Slot<'static>, Slot<'static>, usize, CheckpointError)] = &[
-    // the file is cut before slot A, after its gate, within its head, and within its body
-    (WHOLE, CLOSED, 16, AT_A),
-    (WHOLE, CLOSED, 17, AT_A),
-    (WHOLE, CLOSED, 28, AT_A),
-    (WHOLE, CLOSED, 40, AT_A),
-    // the file is cut before slot B, and within it
-    (WHOLE, CLOSED, 53, AT_B),
-    (WHOLE, CLOSED, 80, AT_B),
-    (WHOLE, (165, 2, 24, NEW), 92, AT_B),
-    (WHOLE, (165, 0, 24, NEW), 116, AT_B),
-    // a length of 52 in either slot, even in the older one, though only 51 bytes fit
-    ((165, 1, 52, OLD), CLOSED, 200, AT_A),
-    ((165, 1, 51, OLD), (165, 0, 52, NEW), 200, AT_B),
-    ((165, 1, 52, OLD), (165, 0, 52, NEW), 200, AT_A),
-    ((165, 1, u32::MAX, OLD), CLOSED, 200, AT_A),
-    // two open slots with the same generation, and none open
-    ((165, 4, 24, OLD), (165, 4, 20, NEW), 200, AT_B),
-    ((165, 4, 52, OLD), (165, 4, 20, NEW), 200, AT_A),
-    ((0, 4, 24, OLD), (7, 5, 24, NEW), 200, CheckpointError::Blank),
-    ((0, 4, 24, OLD), CLOSED, 81, CheckpointError::Blank),
-];
+// Opens the slots of a row, and is refused.
+fn expect_refused(rt: &impl Abort, alloc: Global, row: &str) -> Result<(), Fail> {
+    let mut left = row;
+    let mut disk = disk_with(rt, alloc, &mut left)?;
+    let found = refusal_of(alloc, &mut disk);
+    told(rt, alloc, row, &found, left)
+}
 
 #[test]
 fn finds_damage_at_its_slot(rt: HostRuntime) -> Result<(), Fail> {
-    for (a, b, end, error) in REFUSED {
-        let mut disk = disk_with(rt.alloc(), a, b, *end)?;
-        let found = refusal_of(rt.alloc(), &mut disk);
-        same(&rt, &(a, b, end, found), &(a, b, end, Some(*error)));
+    for row in REFUSED.split('\n') {
+        expect_refused(&rt, rt.alloc(), row)?;
     }
     Ok(())
 }
@@ -92,45 +83,52 @@ fn finds_damage_at_its_slot(rt: HostRuntime) -> Result<(), Fail> {
 fn refusal_of_image<D: Disk>(
     alloc: Global,
     disk: &mut D,
-    len: usize,
+    len: u64,
 ) -> Result<Option<CheckpointError>, Fail> {
-    let body = vec![in alloc; 0; len]?;
+    let body = vec![in alloc; 0; len as usize]?;
     let (slots, _) = opened(alloc, disk)?;
     Ok(slots.image(alloc, &body).err())
 }
 
-// The length of a body, and how it is refused if the generation is the last one.
-const SPENT: &[(usize, CheckpointError)] = &[
-    (0, CheckpointError::GenerationsSpent),
-    (51, CheckpointError::GenerationsSpent),
-    (52, CheckpointError::SlotFull),
-];
-
-#[test]
-fn spends_its_generations(rt: HostRuntime) -> Result<(), Fail> {
-    let mut disk = disk_with(rt.alloc(), &(165, u64::MAX, 1, b"a"), &CLOSED, 200)?;
-    let found = live(rt.alloc(), &mut disk, b"a")?;
-    assert_eq!(rt; found, Some((0, u64::MAX)));
-    for &(len, error) in SPENT {
-        let found = refusal_of_image(rt.alloc(), &mut disk, len)?;
-        same(&rt, &(len, found), &(len, Some(error)));
+// Lengths of bodies, and how each is refused.
+fn expect_images<D: Disk>(
+    rt: &impl Abort,
+    alloc: Global,
+    disk: &mut D,
+    rows: &str,
+) -> Result<(), Fail> {
+    for row in rows.split('\n') {
+        let mut left = row;
+        let found = refusal_of_image(alloc, disk, number(rt, &mut left))?;
+        told(rt, alloc, row, &found, left)?;
     }
     Ok(())
+}
+
+// The generation is the last one.
+#[test]
+fn spends_its_generations(rt: HostRuntime) -> Result<(), Fail> {
+    let mut slots = "165 18446744073709551615 1 a 0 0 0 - 200";
+    let mut disk = disk_with(&rt, rt.alloc(), &mut slots)?;
+    same(
+        &rt,
+        &live(rt.alloc(), &mut disk, b"a")?,
+        &Some((0, u64::MAX)),
+    );
+    let rows = "0 Some(GenerationsSpent)\n51 Some(GenerationsSpent)\n52 Some(SlotFull)";
+    expect_images(&rt, rt.alloc(), &mut disk, rows)
 }
 
 // A body of 51 bytes fits, and one of 52 doesn't.
 #[test]
 fn fills_its_slot(rt: HostRuntime) -> Result<(), Fail> {
     let mut disk = disk_with_old(rt.alloc())?;
-    let fitting = refusal_of_image(rt.alloc(), &mut disk, 51)?;
-    let longer = refusal_of_image(rt.alloc(), &mut disk, 52)?;
-    assert_eq!(rt; [fitting, longer], [None, Some(CheckpointError::SlotFull)]);
-    Ok(())
+    expect_images(&rt, rt.alloc(), &mut disk, "51 None\n52 Some(SlotFull)")
 }
 
 // A disk with two open slots, whose k-th call fails.
-fn failing(alloc: Global, k: u64) -> Result<FaultDisk<MemoryDisk>, Fail> {
-    let disk = disk_with(alloc, &WHOLE, &(165, 2, 24, NEW), 200)?;
+fn failing(rt: &impl Abort, alloc: Global, k: u64) -> Result<FaultDisk<MemoryDisk>, Fail> {
+    let disk = disk_with(rt, alloc, &mut "165 1 24 old 165 2 24 new 200")?;
     Ok(FaultDisk::new(disk, k, 0))
 }
 
@@ -138,7 +136,7 @@ fn failing(alloc: Global, k: u64) -> Result<FaultDisk<MemoryDisk>, Fail> {
 fn answers_a_device_that_fails(rt: HostRuntime) -> Result<(), Fail> {
     // The test's own sync, the length of the disk; the gate, the generation and the length of each slot; the live body.
     for k in 1..10 {
-        let mut disk = failing(rt.alloc(), k)?;
+        let mut disk = failing(&rt, rt.alloc(), k)?;
         let refused = refusal_of(rt.alloc(), &mut disk);
         let found = live(rt.alloc(), &mut disk, NEW)?;
         let device = Some(CheckpointError::Device);
@@ -147,18 +145,15 @@ fn answers_a_device_that_fails(rt: HostRuntime) -> Result<(), Fail> {
     Ok(())
 }
 
-const CODES: &[(CheckpointError, u16)] = &[
-    (CheckpointError::Device, 30),
-    (CheckpointError::OutOfMemory, 31),
-    (CheckpointError::GenerationsSpent, 33),
-    (CheckpointError::SlotFull, 35),
-    (CheckpointError::Damaged { place: 16 }, 40),
-    (CheckpointError::Blank, 41),
-];
-
 #[test]
 fn numbers_its_refusals(rt: HostRuntime) {
-    for &(error, code) in CODES {
-        same(&rt, &(error, error.code()), &(error, code));
-    }
+    let found = [
+        CheckpointError::Device.code(),
+        CheckpointError::OutOfMemory.code(),
+        CheckpointError::GenerationsSpent.code(),
+        CheckpointError::SlotFull.code(),
+        CheckpointError::Damaged { place: 16 }.code(),
+        CheckpointError::Blank.code(),
+    ];
+    same(&rt, &found, &[30, 31, 33, 35, 40, 41]);
 }
