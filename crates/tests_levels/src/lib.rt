@@ -2,6 +2,8 @@
 #![tactic(auto)]
 
 #[cfg(test)]
+mod drawing;
+#[cfg(test)]
 mod expect;
 #[cfg(test)]
 mod foreign;

@@ -1,10 +1,10 @@
 //! The names of a WAD's levels.
 
+use crate::drawing::{ROOM, drawn};
 use crate::expect::same;
 use lump_records::Name8;
 use std::alloc::Global;
 use std::test::Fail;
-use tests_maps::drawing::{ROOM, drawn};
 use wad_build::{ReadError, build_all, level_names};
 
 // Bytes without a level, and why listing their levels is refused, if it is.

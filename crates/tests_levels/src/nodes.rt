@@ -1,12 +1,12 @@
 //! The trees of drawn maps: worked examples, and a row of rooms.
 
+use crate::drawing::{CUT, L, ROOM, SECTOR, SIDE, SLIVER, TWO_ROOMS, draw, drawn};
 use crate::expect::same;
 use lump_records::{Seg, encode_nodes, encode_segs, encode_subs, encode_vertices};
 use map_tables::{Kind, Maps};
 use std::alloc::Global;
 use std::process::Abort;
 use std::test::Fail;
-use tests_maps::drawing::{CUT, L, ROOM, SECTOR, SIDE, SLIVER, TWO_ROOMS, draw, drawn};
 use tree_nodes::{Built, TreeError, build_tree};
 
 // The tree of the map that the lines draw.

@@ -4,13 +4,13 @@ ghost use Rattle.std.specs.Prelude.{◌≡◌, ◌<◌, length, All};
 ghost use Rattle.tree_pieces.specs.Edges.{edges_of};
 ghost use Rattle.tree_pieces.specs.Pieces.{IsPiece};
 
+use crate::drawing::{L, SECTOR, SIDE, SLIVER, drawn};
 use crate::expect::{holds, same};
 use crate::tangle::{Sequence, draw_tangle};
 use map_tables::Map;
 use std::alloc::Global;
 use std::process::Abort;
 use std::test::Fail;
-use tests_maps::drawing::{L, SECTOR, SIDE, SLIVER, drawn};
 use tree_choice::{
     Choice, StraightLines, blocks_of, by_place, choose, choose_in_boxes, choose_ordered, separates,
 };

@@ -1,11 +1,11 @@
 //! Drawn maps built into PWADs: worked examples, what is read back from their bytes, and faults in changed bytes.
 
+use crate::drawing::{CUT, L, ROOM, SECTOR, SIDE, SLIVER, TWO_ROOMS, drawn};
 use crate::expect::{holds, same};
 use lump_records::{Name8, Vertex};
 use std::alloc::Global;
 use std::process::Abort;
 use std::test::Fail;
-use tests_maps::drawing::{CUT, L, ROOM, SECTOR, SIDE, SLIVER, TWO_ROOMS, drawn};
 use tree_blocks::{BlockmapError, blockmap, touches};
 use wad_build::{
     BuildError, Fault, ReadError, Unbuilt, audit, build_all, build_counted, build_wad, read_level,

@@ -4,13 +4,13 @@ ghost use Rattle.std.specs.Prelude.{◌<◌, length, All};
 ghost use Rattle.tree_pieces.specs.Pieces.{IsPiece};
 ghost use Rattle.tree_pieces.specs.Edges.{edges_of};
 
+use crate::drawing::{CUT, L, SECTOR, SLIVER, drawn};
 use crate::expect::{holds, same};
 use lump_records::{Bounds, Vertex};
 use map_tables::Map;
 use std::alloc::Global;
 use std::process::Abort;
 use std::test::Fail;
-use tests_maps::drawing::{CUT, L, SECTOR, SLIVER, drawn};
 use tree_pieces::{
     Facing, Frac, Parts, Piece, Place, Points, SegsError, angle16, boxes_in, divide, edges_of,
     offset, pieces_of, point, side_of,

@@ -1,10 +1,10 @@
 //! Maps of many lines that cross one another, drawn by a fixed sequence of pseudorandom numbers.
 ghost use Rattle.std.specs.Prelude.{◌<◌};
 
+use crate::drawing::{SECTOR, SIDE, draw, drawn};
 use map_tables::Maps;
 use std::alloc::Global;
 use std::test::Fail;
-use tests_maps::drawing::{SECTOR, SIDE, draw, drawn};
 
 /// A fixed sequence of pseudorandom numbers.
 #[derive(Drop)]

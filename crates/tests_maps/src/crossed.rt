@@ -1,10 +1,11 @@
 //! Which of many lines meet another one, beside what each two of them alone are found to do.
 
-use crate::drawing::{AMPLE, SECTOR, answer, drawn};
+use crate::drawing::{draw_lines, drawn};
 use crate::expect::same;
 use map_plane::crossed_lines;
 use map_tables::Maps;
 use std::alloc::Global;
+use std::process::Abort;
 use std::test::Fail;
 
 // How many lines there are: more than are compared each with each.
@@ -22,16 +23,21 @@ fn mixed(seed: u32, n: u32) -> u32 {
     second ^ (second >> 13)
 }
 
-// The map of 64 vertices in eight rows and eight columns.
-fn grid(alloc: Global, apart: i32) -> Result<Maps, Fail> {
-    let mut maps = drawn(alloc, &[SECTOR, b"side 0 0 - - - 0"])?;
+// Draws 64 vertices in eight rows and eight columns.
+fn draw_grid(alloc: Global, maps: &mut Maps, apart: i32) -> Result<(), Fail> {
     for n in 0..64i32 {
-        let mut text = String::new(alloc);
         let x = (n % 8).wrapping_mul(apart);
         let y = (n / 8).wrapping_mul(apart);
-        write!(text, "vertex {x} {y}")?;
-        answer(&mut maps, text.as_bytes(), AMPLE)?;
+        let line = format!(in alloc; "vertex {x} {y}")?;
+        draw_lines(maps, line.as_str())?;
     }
+    Ok(())
+}
+
+// The map of these vertices.
+fn grid(alloc: Global, apart: i32) -> Result<Maps, Fail> {
+    let mut maps = drawn(alloc, "SECTOR;side 0 0 - - - 0")?;
+    draw_grid(alloc, &mut maps, apart)?;
     Ok(maps)
 }
 
@@ -39,18 +45,27 @@ fn grid(alloc: Global, apart: i32) -> Result<Maps, Fail> {
 fn draw_line(alloc: Global, maps: &mut Maps, seed: u32, n: u32) -> Result<(), Fail> {
     let from = mixed(seed, n) % 64;
     let to = (from + 1 + mixed(seed, n.wrapping_add(1000)) % 21) % 64;
-    let mut text = String::new(alloc);
-    write!(text, "line {from} {to} 4 0 0 0 0")?;
-    answer(maps, text.as_bytes(), AMPLE)?;
-    Ok(())
+    let line = format!(in alloc; "line {from} {to} 4 0 0 0 0")?;
+    draw_lines(maps, line.as_str())
+}
+
+// Whether the two lines meet once they are drawn.
+fn are_crossed(
+    alloc: Global,
+    maps: &mut Maps,
+    seed: u32,
+    n: u32,
+    other: u32,
+) -> Result<bool, Fail> {
+    draw_line(alloc, maps, seed, n)?;
+    draw_line(alloc, maps, seed, other)?;
+    Ok(crossed_lines(alloc, maps.current())?.contains(&true))
 }
 
 // Whether the two lines meet.
 fn is_pair_crossed(alloc: Global, apart: i32, seed: u32, n: u32, other: u32) -> Result<bool, Fail> {
     let mut maps = grid(alloc, apart)?;
-    draw_line(alloc, &mut maps, seed, n)?;
-    draw_line(alloc, &mut maps, seed, other)?;
-    Ok(crossed_lines(alloc, maps.current())?.contains(&true))
+    are_crossed(alloc, &mut maps, seed, n, other)
 }
 
 // Whether the line meets one of the others, each alone with it.
@@ -63,19 +78,35 @@ fn is_crossed(alloc: Global, apart: i32, seed: u32, n: u32) -> Result<bool, Fail
     Ok(false)
 }
 
+// Which of the lines meet another one, if all are drawn.
+fn all_crossed(alloc: Global, maps: &mut Maps, seed: u32) -> Result<Vec<bool>, Fail> {
+    for n in 0..LINES {
+        draw_line(alloc, maps, seed, n)?;
+    }
+    Ok(crossed_lines(alloc, maps.current())?)
+}
+
+// The lines are found to meet as each two of them are.
+fn expect_crossed(
+    rt: &impl Abort,
+    alloc: Global,
+    crossed: &[bool],
+    seed: u32,
+    apart: i32,
+) -> Result<(), Fail> {
+    for n in 0..LINES {
+        let alone = is_crossed(alloc, apart, seed, n)?;
+        same(rt, &crossed.get(n as usize).copied(), &Some(alone));
+    }
+    Ok(())
+}
+
 #[test]
 fn lines_meet_as_each_two_of_them_do(rt: HostRuntime) -> Result<(), Fail> {
-    let alloc = rt.alloc();
     for (seed, apart) in DRAWINGS {
-        let mut maps = grid(alloc, apart)?;
-        for n in 0..LINES {
-            draw_line(alloc, &mut maps, seed, n)?;
-        }
-        let crossed = crossed_lines(alloc, maps.current())?;
-        for n in 0..LINES {
-            let alone = is_crossed(alloc, apart, seed, n)?;
-            same(&rt, &crossed.get(n as usize).copied(), &Some(alone));
-        }
+        let mut maps = grid(rt.alloc(), apart)?;
+        let crossed = all_crossed(rt.alloc(), &mut maps, seed)?;
+        expect_crossed(&rt, rt.alloc(), &crossed, seed, apart)?;
     }
     Ok(())
 }

@@ -1,6 +1,6 @@
 //! The dump of a worked project with two maps, and a writer that takes only so many bytes.
 
-use crate::drawing::{ROOM, drawn};
+use crate::drawing::drawn;
 use crate::expect::same;
 use map_dump::{DumpError, write_dump, write_map_dump};
 use std::io;
@@ -8,10 +8,7 @@ use std::io::Write;
 use std::test::Fail;
 
 // A room with a thing, and a second map with one vertex. The first map is current at the end.
-#[rattlefmt::skip]
-const DRAWING: [&[u8]; 6] = [
-    b"name E1M1", ROOM, b"thing 64 64 90 1 7", b"map MAP02", b"vertex -3 4", b"map E1M1",
-];
+const DRAWING: &str = "name E1M1;ROOM;thing 64 64 90 1 7;map MAP02;vertex -3 4;map E1M1";
 
 // Its dump, worked by hand. A room's corners go clockwise from the lower left one.
 const TEXT: &[u8] = b"name E1M1
@@ -76,7 +73,7 @@ impl Write for Full {
 
 #[test]
 fn writes_two_maps(rt: HostRuntime) -> Result<(), Fail> {
-    let maps = drawn(rt.alloc(), &DRAWING)?;
+    let maps = drawn(rt.alloc(), DRAWING)?;
     let mut text = Vec::new(rt.alloc());
     same(&rt, &write_dump(rt.alloc(), &maps, &mut text), &Ok(()));
     same(&rt, &text.as_slice(), &TEXT);
@@ -85,7 +82,7 @@ fn writes_two_maps(rt: HostRuntime) -> Result<(), Fail> {
 
 #[test]
 fn writes_each_map_alone(rt: HostRuntime) -> Result<(), Fail> {
-    let maps = drawn(rt.alloc(), &DRAWING)?;
+    let maps = drawn(rt.alloc(), DRAWING)?;
     let mut text = Vec::new(rt.alloc());
     for n in 0..maps.len() {
         if let Some(map) = maps.at(n) {
@@ -100,7 +97,7 @@ fn writes_each_map_alone(rt: HostRuntime) -> Result<(), Fail> {
 // the second.
 #[test]
 fn tells_of_a_full_writer(rt: HostRuntime) -> Result<(), Fail> {
-    let maps = drawn(rt.alloc(), &[b"vertex 0 0".as_slice()])?;
+    let maps = drawn(rt.alloc(), "vertex 0 0")?;
     let mut writer = Full { room: 10 };
     let told = write_dump(rt.alloc(), &maps, &mut writer);
     same(&rt, &told, &Err(DumpError::WriterFailed));

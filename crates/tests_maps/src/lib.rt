@@ -29,6 +29,7 @@ mod maps;
 mod maptables;
 #[cfg(test)]
 mod picture;
+pub mod rows;
 #[cfg(test)]
 mod shapes;
 #[cfg(test)]

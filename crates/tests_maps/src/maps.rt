@@ -40,8 +40,12 @@ pub fn is_refused(alloc: Global, body: &[u8]) -> bool {
 fn the_new_project_has_the_empty_map(rt: HostRuntime) {
     let maps = Maps::new(rt.alloc());
     let found = [maps.find(MAP01), maps.find(E1M1)];
-    assert_eq!(rt; (maps.current().name(), found), (MAP01, [Some(0), None]));
-    assert!(rt; maps.at(1).is_none());
+    let further = maps.at(1).is_some();
+    same(
+        &rt,
+        &(maps.current().name(), found, further),
+        &(MAP01, [Some(0), None], false),
+    );
 }
 
 // Reads a body: how many maps it has, which is current, how long their body is, and that body.
@@ -84,23 +88,25 @@ fn a_changed_byte_is_refused(rt: HostRuntime) -> Result<(), Fail> {
 
 // No bytes; version 2 alone, and without a map; `01 01` alone, and before a map; version 1 with an extra byte at the
 // end; version 3.
-const NO_BODIES: &[&[u8]] = &[
-    b"",
-    b"\x02",
-    b"\x02\0",
-    b"\x01\x01",
-    b"\x01\x01MAP01\0\0\0\0\0\0\0\0\0\0\0\0\0",
-    b"\x01\0MAP01\0\0\0\0\0\0\0\0\0\0\0\0\0\0",
-    b"\x03\0MAP01\0\0\0\0\0\0\0\0\0\0\0\0\0",
-];
+const NO_BODIES: &str = "\n\
+    \x02\n\
+    \x02\0\n\
+    \x01\x01\n\
+    \x01\x01MAP01\0\0\0\0\0\0\0\0\0\0\0\0\0\n\
+    \x01\0MAP01\0\0\0\0\0\0\0\0\0\0\0\0\0\0\n\
+    \x03\0MAP01\0\0\0\0\0\0\0\0\0\0\0\0\0";
 
 #[test]
 fn bytes_of_no_project_are_refused(rt: HostRuntime) -> Result<(), Fail> {
-    for &body in NO_BODIES {
-        same(&rt, &(body, is_refused(rt.alloc(), body)), &(body, true));
+    for body in NO_BODIES.split('\n') {
+        same(
+            &rt,
+            &(body, is_refused(rt.alloc(), body.as_bytes())),
+            &(body, true),
+        );
     }
     let long = body_of(rt.alloc(), 33, 0)?;
-    assert!(rt; is_refused(rt.alloc(), &long));
+    same(&rt, &is_refused(rt.alloc(), &long), &true);
     Ok(())
 }
 

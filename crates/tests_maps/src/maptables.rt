@@ -1,7 +1,8 @@
 //! The new map, keys, names and refusals. Edits are tested by lines (`lines.rt`, `tests_runs`).
 
-use crate::drawing::{SECTOR, SIDE, draw, drawn};
+use crate::drawing::{draw, drawn};
 use crate::expect::same;
+use crate::rows::{expect_rows, expect_text, halves, said};
 use lump_records::Vertex;
 use map_tables::{Kind, Map, MapError, Maps, is_marker, is_name, squared_distance};
 use std::alloc::Global;
@@ -27,19 +28,18 @@ fn the_new_map_is_empty(rt: HostRuntime) -> Result<(), Fail> {
     Ok(())
 }
 
-const LINE: &[u8] = b"line 0 1 1 0 0 0 -";
+// Lines that draw three items of a table, and the line that drops the first of them.
+const VERTICES: &str = "vertex 0 0;vertex 1 0;vertex 2 0|drop vertex 0";
 
-const THING: &[u8] = b"thing 0 0 90 1 7";
+const SECTORS: &str = "SECTOR;SECTOR;SECTOR|drop sector 0";
 
-// A table, lines that draw three items of it, and the line that drops the first of them.
-#[rattlefmt::skip]
-const THREE_OF_EACH: &[(Kind, &[&[u8]], &[u8])] = &[
-    (Kind::Vertex, &[b"vertex 0 0", b"vertex 1 0", b"vertex 2 0"], b"drop vertex 0"),
-    (Kind::Sector, &[SECTOR, SECTOR, SECTOR], b"drop sector 0"),
-    (Kind::Side, &[SECTOR, SIDE, SIDE, SIDE], b"drop side 0"),
-    (Kind::Line, &[b"vertex 0 0", b"vertex 1 0", SECTOR, SIDE, LINE, LINE, LINE], b"drop line 0"),
-    (Kind::Thing, &[THING, THING, THING], b"drop thing 0"),
-];
+const SIDES: &str = "SECTOR;SIDE;SIDE;SIDE|drop side 0";
+
+const LINES: &str =
+    "vertex 0 0;vertex 1 0;SECTOR;SIDE;line 0 1 1 0 0 0 -;line 0 1 1 0 0 0 -;line 0 1 1 0 0 0 -|\
+    drop line 0";
+
+const THINGS: &str = "thing 0 0 90 1 7;thing 0 0 90 1 7;thing 0 0 90 1 7|drop thing 0";
 
 // The keys of the first three items of a table.
 fn keys(maps: &Maps, kind: Kind) -> [Option<usize>; 3] {
@@ -48,73 +48,99 @@ fn keys(maps: &Maps, kind: Kind) -> [Option<usize>; 3] {
 
 // The keys before and after an item is dropped.
 fn keys_over_a_drop(
-    alloc: Global,
+    maps: &mut Maps,
     kind: Kind,
-    lines: &[&[u8]],
-    drop: &[u8],
-) -> Result<[[Option<usize>; 3]; 2], (usize, u16)> {
+    drop: &str,
+) -> Result<[[Option<usize>; 3]; 2], Fail> {
+    let before = keys(maps, kind);
+    draw(maps, drop)?;
+    Ok([before, keys(maps, kind)])
+}
+
+// The second and the third item of a table keep their keys when the first one is dropped.
+fn expect_keys(alloc: Global, kind: Kind, row: &str) -> Result<(), Fail> {
+    let (lines, drop) = halves(row);
     let mut maps = drawn(alloc, lines)?;
-    let before = keys(&maps, kind);
-    draw(&mut maps, &[drop])?;
-    Ok([before, keys(&maps, kind)])
+    let [before, after] = keys_over_a_drop(&mut maps, kind, drop)?;
+    let [_, second, third] = before;
+    let found = said(alloc, &(second.is_some(), second == third, after))?;
+    let wanted = said(alloc, &(true, false, [second, third, None]))?;
+    expect_text(row, found.as_str(), wanted.as_str())
 }
 
 // An item keeps its key when another one is dropped, though its number falls.
 #[test]
 fn keys_stay_after_a_drop(rt: HostRuntime) -> Result<(), Fail> {
-    for &(kind, lines, drop) in THREE_OF_EACH {
-        let [before, after] = keys_over_a_drop(rt.alloc(), kind, lines, drop)?;
-        let [_, second, third] = before;
-        let found = (kind, second.is_some(), second == third, after);
-        same(&rt, &found, &(kind, true, false, [second, third, None]));
-    }
-    Ok(())
+    expect_keys(rt.alloc(), Kind::Vertex, VERTICES)?;
+    expect_keys(rt.alloc(), Kind::Sector, SECTORS)?;
+    expect_keys(rt.alloc(), Kind::Side, SIDES)?;
+    expect_keys(rt.alloc(), Kind::Line, LINES)?;
+    expect_keys(rt.alloc(), Kind::Thing, THINGS)
 }
+
+// Whether two maps have the same lumps.
+fn have_same_lumps(alloc: Global, map: &Map, other: &Map) -> Result<bool, Fail> {
+    for &kind in KINDS {
+        if map.lump(alloc, kind)? != other.lump(alloc, kind)? {
+            return Ok(false);
+        }
+    }
+    Ok(true)
+}
+
+// Whether a copy of the map has the same lumps.
+fn is_copied(alloc: Global, map: &Map) -> Result<bool, Fail> {
+    let copy = map.copy(alloc)?;
+    have_same_lumps(alloc, &copy, map)
+}
+
+fn copied(alloc: Global, lines: &str) -> Result<String, Fail> {
+    let maps = drawn(alloc, lines)?;
+    said(alloc, &is_copied(alloc, maps.current())?)
+}
+
+// Lines that draw three items of a table and drop the first of them, in a map that has a copy with the same lumps.
+const COPIES: &str = "vertex 0 0;vertex 1 0;vertex 2 0;drop vertex 0|true\n\
+    SECTOR;SECTOR;SECTOR;drop sector 0|true\n\
+    SECTOR;SIDE;SIDE;SIDE;drop side 0|true\n\
+    vertex 0 0;vertex 1 0;SECTOR;SIDE;line 0 1 1 0 0 0 -;line 0 1 1 0 0 0 -;line 0 1 1 0 0 0 -;drop line 0|true\n\
+    thing 0 0 90 1 7;thing 0 0 90 1 7;thing 0 0 90 1 7;drop thing 0|true";
 
 // A copy has the records of its map, also where keys have gaps.
 #[test]
 fn copies_have_the_same_lumps(rt: HostRuntime) -> Result<(), Fail> {
-    for &(_, lines, drop) in THREE_OF_EACH {
-        let mut maps = drawn(rt.alloc(), lines)?;
-        draw(&mut maps, &[drop])?;
-        let map = maps.current();
-        let copy = map.copy(rt.alloc())?;
-        for &kind in KINDS {
-            let found = copy.lump(rt.alloc(), kind)?;
-            let wanted = map.lump(rt.alloc(), kind)?;
-            same(&rt, &found.as_slice(), &wanted.as_slice());
-        }
-    }
-    Ok(())
+    expect_rows(rt.alloc(), COPIES, copied)
 }
 
 // Texts, and whether each is a name of a texture or flat, and whether it is a marker.
-const NAMES: &[(&[u8], bool, bool)] = &[
-    (b"-", true, false),
-    (b"FLOOR4_8", true, false),
-    (b"A[B]C\\_9", true, false),
-    (b"", false, false),
-    (b"floor4_8", false, false),
-    (b"FLOOR4_8X", false, false),
-    (b"A B", false, false),
-    (b"MAP01", true, true),
-    (b"MAP99", true, true),
-    (b"E1M1", true, true),
-    (b"E9M9", true, true),
-    (b"MAP00", true, false),
-    (b"MAP1", true, false),
-    (b"MAP001", true, false),
-    (b"E0M1", true, false),
-    (b"E1M0", true, false),
-    (b"map01", false, false),
-];
+const NAMES: &str = "-|(true, false)\n\
+    FLOOR4_8|(true, false)\n\
+    A[B]C\\_9|(true, false)\n\
+    |(false, false)\n\
+    floor4_8|(false, false)\n\
+    FLOOR4_8X|(false, false)\n\
+    A B|(false, false)\n\
+    MAP01|(true, true)\n\
+    MAP99|(true, true)\n\
+    E1M1|(true, true)\n\
+    E9M9|(true, true)\n\
+    MAP00|(true, false)\n\
+    MAP1|(true, false)\n\
+    MAP001|(true, false)\n\
+    E0M1|(true, false)\n\
+    E1M0|(true, false)\n\
+    map01|(false, false)";
+
+fn name_and_marker(alloc: Global, text: &str) -> Result<String, Fail> {
+    said(
+        alloc,
+        &(is_name(text.as_bytes()), is_marker(text.as_bytes())),
+    )
+}
 
 #[test]
-fn names_have_their_bytes(rt: HostRuntime) {
-    for &(text, name, marker) in NAMES {
-        let found = (text, is_name(text), is_marker(text));
-        same(&rt, &found, &(text, name, marker));
-    }
+fn names_have_their_bytes(rt: HostRuntime) -> Result<(), Fail> {
+    expect_rows(rt.alloc(), NAMES, name_and_marker)
 }
 
 const REFUSALS: &[(MapError, u16)] = &[
