@@ -155,7 +155,7 @@ grows a b c e p n i at =
     e1 ∙ (λ t. (e.y -ℤ c.y) *ℤ at.across t -ℤ (e.x -ℤ c.x) *ℤ at.upward t +ℤ n *ℤ turn c e a) ∙ e2
 
 -- the value of a place by a part of a line goes with its value by the line
-goes_with : (a b p q x : Vertex) (n i j : ℤ) → IsPlacedAt a b n i p → IsPlacedAt a b n j q → n *ℤ turn p q x ≡ (j -ℤ i) *ℤ (turn a b x -ℤ turn a b p)
+pub goes_with : (a b p q x : Vertex) (n i j : ℤ) → IsPlacedAt a b n i p → IsPlacedAt a b n j q → n *ℤ turn p q x ≡ (j -ℤ i) *ℤ (turn a b x -ℤ turn a b p)
 goes_with a b p q x n i j f g =
     let e1 : n *ℤ turn p q x
     ≡ (n *ℤ (q.y -ℤ a.y) -ℤ n *ℤ (p.y -ℤ a.y)) *ℤ (x.x -ℤ p.x) -ℤ (n *ℤ (q.x -ℤ a.x) -ℤ n *ℤ (p.x -ℤ a.x)) *ℤ (x.y -ℤ p.y) =
@@ -201,11 +201,11 @@ sides_says l k h =
     (λ f. let two = and_both _ _ f in inr (lt_says _ _ two.0, lt_says _ _ two.1))
     (or_either _ _ h)
 
-sides_up : (l k : PlacedLine) → turn l.from l.to k.from <ℤ pos 0 → pos 0 <ℤ turn l.from l.to k.to → has_on_both_sides l k ≡ true
+pub sides_up : (l k : PlacedLine) → turn l.from l.to k.from <ℤ pos 0 → pos 0 <ℤ turn l.from l.to k.to → has_on_both_sides l k ≡ true
 unfolding has_on_both_sides side_value_at
 sides_up l k f g = or_left _ _ (both _ _ (lt_is (turn l.from l.to k.from) (pos 0) f) (lt_is (pos 0) (turn l.from l.to k.to) g))
 
-sides_down : (l k : PlacedLine) → pos 0 <ℤ turn l.from l.to k.from → turn l.from l.to k.to <ℤ pos 0 → has_on_both_sides l k ≡ true
+pub sides_down : (l k : PlacedLine) → pos 0 <ℤ turn l.from l.to k.from → turn l.from l.to k.to <ℤ pos 0 → has_on_both_sides l k ≡ true
 unfolding has_on_both_sides side_value_at
 sides_down l k f g = or_right _ _ (both _ _ (lt_is (pos 0) (turn l.from l.to k.from) f) (lt_is (turn l.from l.to k.to) (pos 0) g))
 

@@ -1,7 +1,6 @@
 -- Whether one of a list's items passes a test.
-use Rattle.std.proofs.Common.{◌≡◌, ℕ, zero, suc, Bool, true, false, ◌||◌, List, [], ◌∷◌, ◌++◌, take, drop, refl, sym, ap, ◌∙◌, ⊎_elim}
+use Rattle.std.proofs.Common.{◌≡◌, ℕ, zero, suc, Bool, true, false, List, [], ◌∷◌, ◌++◌, take, drop, refl, sym, ap, ◌∙◌, ⊎_elim}
 use Rattle.std.specs.List.{list_any}
-use Rattle.std.proofs.lemmas.List.Folds.{list_any-append}
 use Rattle.map_plane.proofs.Tests.{or_either, or_left, or_right}
 
 -- where one test holds another one does
@@ -22,14 +21,3 @@ pub take_then_drop : {X : Type 0} (xs : List X) (i : ℕ) → take i xs ++ drop 
 take_then_drop xs zero = refl
 take_then_drop [] (suc i) = refl
 take_then_drop (x ∷ xs) (suc i) = ap (λ ys. x ∷ ys) (take_then_drop xs i)
-
-turned : (a b : Bool) → (a || b) ≡ (b || a)
-turned true true = refl
-turned true false = refl
-turned false true = refl
-turned false false = refl
-
--- the back of a list, and then its front
-pub any_from : {X : Type 0} (f : X → Bool) (xs : List X) (i : ℕ) → (list_any f (drop i xs) || list_any f (take i xs)) ≡ list_any f xs
-any_from f xs i =
-    turned (list_any f (drop i xs)) (list_any f (take i xs)) ∙ sym (list_any-append f (take i xs) (drop i xs)) ∙ ap (list_any f) (take_then_drop xs i)

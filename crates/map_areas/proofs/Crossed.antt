@@ -1,15 +1,17 @@
 -- Where an edge crosses a line: how far that is along the edge, if it is a whole place.
-use Rattle.std.proofs.Common.{◌≡◌, ◌<◌, ⊎_elim, add-zero, ◌%◌, refl, sym, ap, ◌∙◌, ℕ, zero, suc, ◌+◌, ◌*◌, [], ◌∷◌, true, ◌&&◌, ◌||◌, arith}
+use Rattle.std.proofs.Common.{◌≡◌, ◌<◌, ◌≤◌, ⊎_elim, add-zero, ◌/◌, ◌%◌, refl, sym, ap, ap₂, ◌∙◌, ℕ, zero, suc, ◌+◌, ◌*◌, [], ◌∷◌, true, ◌&&◌, ◌||◌, arith, to_z, of_z}
 use Rattle.std.proofs.lemmas.Bool.Decides.{Decides-int_eq}
-use Rattle.std.proofs.lemmas.Int.{ints}
-use Rattle.std.proofs.lemmas.Nat.{mod-mul-add}
+use Rattle.std.proofs.lemmas.Int.{clamps, ints, to_z-of_z}
+use Rattle.std.proofs.lemmas.Nat.{div-mul-add, mod-mul-add}
+use Rattle.std.specs.Int.{w16, w64}
+use Rattle.std.specs.Int.RustNames.{FitsSigned}
 use Rattle.std.specs.Ordering.{int_eq}
-use Rattle.std.specs.Prelude.{ℤ, pos, negsuc, ◌+ℤ◌, ◌-ℤ◌, ◌*ℤ◌, neg_ℤ, nat_abs, int_lt}
+use Rattle.std.specs.Prelude.{ℤ, pos, negsuc, ◌+ℤ◌, ◌-ℤ◌, ◌*ℤ◌, ◌≤ℤ◌, neg_ℤ, nat_abs, int_lt}
 use borrow.Author.Differences.{abs_is}
 use Rattle.lump_records.proofs.Ring.{by_ring, quotes}
 use Rattle.lump_records.specs.declared.records.Vertex.{Vertex}
-use Rattle.map_plane.proofs.Tests.{and_both, lt_says, or_either}
-use Rattle.map_plane.specs.Meeting.{boxes_meet, has_on_both_sides, is_on, side_value_at, spans_meet}
+use Rattle.map_plane.proofs.Tests.{and_both, lt_says, or_either, under_says}
+use Rattle.map_plane.specs.Meeting.{boxes_meet, has_on_both_sides, is_on, is_under, side_value_at, spans_meet}
 use Rattle.map_plane.specs.declared.places.PlacedLine.{PlacedLine}
 use Rattle.map_areas.specs.Ways.{crosses_way}
 
@@ -93,6 +95,10 @@ some_whole l k c = some_apart (side_value_at k l.from) (side_value_at k l.to) (c
 pub no_rest : (n w : ℕ) → 0 < w → (n * w) % w ≡ 0
 no_rest n w h = ap (λ x. x % w) (sym (add-zero (n * w))) ∙ mod-mul-add n w 0 h
 
+-- and there are that many
+pub so_many : (n w : ℕ) → 0 < w → n * w / w ≡ n
+so_many n w h = ap (λ x. x / w) (sym (add-zero (n * w))) ∙ div-mul-add n w 0 h
+
 -- so far along x is a whole place on both lines from the start of the one
 pub whole_x : (l k : PlacedLine) (p : Vertex) → crosses_way l k ≡ true → is_on l p ≡ true → is_on k p ≡ true
     → nat_abs (p.x -ℤ l.from.x) * (nat_abs (side_value_at k l.from) + nat_abs (side_value_at k l.to))
@@ -112,3 +118,116 @@ whole_y l k p c ol ok =
     in_sizes (p.y -ℤ l.from.y) (l.to.y -ℤ l.from.y) (side_value_at k l.from) (side_value_at k l.to) (crossed_sides l k c)
     (without_zeros (p.y -ℤ l.from.y) (l.to.y -ℤ l.from.y) (k.to.y -ℤ k.from.y) (side_value_at k l.from) (side_value_at k l.to) (side_value_at k p) (side_value_at l p)
     (along_y (k.to.x -ℤ k.from.x) (k.to.y -ℤ k.from.y) k.from.x k.from.y l.from.x l.from.y l.to.x l.to.y p.x p.y) (on_line k p ok) (on_line l p ol))
+
+-- a place on a line is in its span along x
+pub on_x : (l : PlacedLine) (p : Vertex) → is_on l p ≡ true → spans_meet l.from.x l.to.x p.x p.x ≡ true
+unfolding is_on
+on_x l p h =
+    let box = and_both (int_eq (side_value_at l p) (pos 0) && spans_meet l.from.x l.to.x p.x p.x)
+    (spans_meet l.from.y l.to.y p.y p.y) h in
+    (and_both (int_eq (side_value_at l p) (pos 0)) (spans_meet l.from.x l.to.x p.x p.x) box.0).1
+
+-- and along y
+pub on_y : (l : PlacedLine) (p : Vertex) → is_on l p ≡ true → spans_meet l.from.y l.to.y p.y p.y ≡ true
+unfolding is_on
+on_y l p h =
+    (and_both (int_eq (side_value_at l p) (pos 0) && spans_meet l.from.x l.to.x p.x p.x)
+    (spans_meet l.from.y l.to.y p.y p.y) h).1
+
+-- ---- The way to a number of a span
+
+-- the number is no further from the start than the end is
+in_span : (a b p : ℤ) → spans_meet a b p p ≡ true → nat_abs (p -ℤ a) ≤ nat_abs (b -ℤ a)
+unfolding spans_meet
+in_span a b p h =
+    let one = and_both (is_under a b p p) (is_under p p a b) h in
+    let low = under_says a b p p one.0 in
+    let high = under_says p p a b one.1 in
+    omega (arith, ints, clamps, abs_is (p -ℤ a), abs_is (b -ℤ a))
+
+-- it lies between the ends, upwards
+in_rise : (a b p : ℤ) → a ≤ℤ b → spans_meet a b p p ≡ true → (a ≤ℤ p) × (p ≤ℤ b)
+unfolding spans_meet
+in_rise a b p up h =
+    let one = and_both (is_under a b p p) (is_under p p a b) h in
+    let low = under_says a b p p one.0 in
+    let high = under_says p p a b one.1 in
+    (omega (arith, ints, clamps), omega (arith, ints, clamps))
+
+-- and downwards
+in_fall : (a b p : ℤ) → b ≤ℤ a → spans_meet a b p p ≡ true → (b ≤ℤ p) × (p ≤ℤ a)
+unfolding spans_meet
+in_fall a b p down h =
+    let one = and_both (is_under a b p p) (is_under p p a b) h in
+    let low = under_says a b p p one.0 in
+    let high = under_says p p a b one.1 in
+    (omega (arith, ints, clamps), omega (arith, ints, clamps))
+
+by_rise : (a p : ℤ) (n : ℕ) → a ≤ℤ p → n ≡ nat_abs (p -ℤ a) → a +ℤ pos n ≡ p
+by_rise a p n up far = omega (arith, ints, abs_is (p -ℤ a))
+
+by_fall : (a p : ℤ) (n : ℕ) → p ≤ℤ a → n ≡ nat_abs (p -ℤ a) → a -ℤ pos n ≡ p
+by_fall a p n down far = omega (arith, ints, abs_is (p -ℤ a))
+
+-- what lies between two numbers of 16 bits is one
+fits_between : (a b p : ℤ) → FitsSigned w16 a → FitsSigned w16 b → a ≤ℤ p → p ≤ℤ b → FitsSigned w16 p
+fits_between a b (pos p) fa fb low high = record { sfits = grind (arith, ints) }
+fits_between a b (negsuc p) fa fb low high = record { sfits = grind (arith, ints) }
+
+-- so nothing is lost of it
+as_it_is : (a b p s : ℤ) → FitsSigned w16 a → FitsSigned w16 b → a ≤ℤ p → p ≤ℤ b → s ≡ p
+    → to_z w16 (of_z w16 (to_z w64 (of_z w64 s))) ≡ p
+as_it_is a b p s fa fb low high e =
+    let f = fits_between a b p fa fb low high in
+    let g : FitsSigned w64 p = record { sfits = omega (arith, ints, f) } in
+    ap (λ (x : ℤ). to_z w16 (of_z w16 (to_z w64 (of_z w64 x)))) e
+    ∙ ap (λ (x : ℤ). to_z w16 (of_z w16 x)) (to_z-of_z w64 p g) ∙ to_z-of_z w16 p f
+
+-- nor of a number of 16 bits in 64
+as_wide : (a f : ℤ) → FitsSigned w16 a → f ≡ to_z w16 (of_z w16 a) → to_z w64 (of_z w64 f) ≡ a
+as_wide a f fits e =
+    let g : FitsSigned w64 a = record { sfits = omega (arith, ints, fits) } in
+    ap (λ (x : ℤ). to_z w64 (of_z w64 x)) (e ∙ to_z-of_z w16 a fits) ∙ to_z-of_z w64 a g
+
+-- upwards the number is reached by adding how far it is from the start
+pub so_far_up : (a b p f : ℤ) (n : ℕ) → FitsSigned w16 a → FitsSigned w16 b → a ≤ℤ b → spans_meet a b p p ≡ true
+    → f ≡ to_z w16 (of_z w16 a) → n ≤ 65535 → n ≡ nat_abs (p -ℤ a)
+    → to_z w16 (of_z w16 (to_z w64 (of_z w64 (to_z w64 (of_z w64 f) +ℤ to_z w64 n)))) ≡ p
+so_far_up a b p f n fa fb up h e small far =
+    let same : to_z w64 n ≡ pos n = omega (arith, ints) in
+    let within = in_rise a b p up h in
+    as_it_is a b p _ fa fb within.0 within.1
+    (ap₂ (λ (x y : ℤ). x +ℤ y) (as_wide a f fa e) same ∙ by_rise a p n within.0 far)
+
+-- and downwards by taking that away
+pub so_far_down : (a b p f : ℤ) (n : ℕ) → FitsSigned w16 a → FitsSigned w16 b → b ≤ℤ a → spans_meet a b p p ≡ true
+    → f ≡ to_z w16 (of_z w16 a) → n ≤ 65535 → n ≡ nat_abs (p -ℤ a)
+    → to_z w16 (of_z w16 (to_z w64 (of_z w64 (to_z w64 (of_z w64 f) -ℤ to_z w64 n)))) ≡ p
+so_far_down a b p f n fa fb down h e small far =
+    let same : to_z w64 n ≡ pos n = omega (arith, ints) in
+    let within = in_fall a b p down h in
+    as_it_is b a p _ fb fa within.0 within.1
+    (ap₂ (λ (x y : ℤ). x -ℤ y) (as_wide a f fa e) same ∙ by_fall a p n within.1 far)
+
+-- the part v of w of the span is as far as the number lies, if that is what the part of its length is
+pub as_far : (a b p : ℤ) (s v w r : ℕ) → FitsSigned w16 a → FitsSigned w16 b
+    → s ≡ nat_abs (to_z w16 (of_z w16 b) -ℤ to_z w16 (of_z w16 a)) → spans_meet a b p p ≡ true
+    → nat_abs (p -ℤ a) * w ≡ nat_abs (b -ℤ a) * v → ((n : ℕ) → n ≤ s → n * w ≡ s * v → r ≡ n)
+    → r ≡ nat_abs (p -ℤ a)
+as_far a b p s v w r fa fb is h e exact =
+    let far = in_span a b p h in
+    let length : s ≡ nat_abs (b -ℤ a) =
+    is ∙ ap₂ (λ (x y : ℤ). nat_abs (x -ℤ y)) (to_z-of_z w16 b fb) (to_z-of_z w16 a fa) in
+    exact (nat_abs (p -ℤ a)) (omega (arith, far, length)) (e ∙ ap (λ (x : ℕ). x * v) (sym length))
+
+-- the number so far along is the answer, if it is for the ends as they are read
+pub reached : (a b p : ℤ) (v w : ℕ) (r : ℤ) → FitsSigned w16 a → FitsSigned w16 b → FitsSigned w16 r
+    → spans_meet a b p p ≡ true → nat_abs (p -ℤ a) * w ≡ nat_abs (b -ℤ a) * v
+    → ((q : ℤ) → spans_meet (to_z w16 (of_z w16 a)) (to_z w16 (of_z w16 b)) q q ≡ true
+    → nat_abs (q -ℤ to_z w16 (of_z w16 a)) * w ≡ nat_abs (to_z w16 (of_z w16 b) -ℤ to_z w16 (of_z w16 a)) * v → r ≡ q)
+    → to_z w16 (of_z w16 r) ≡ p
+reached a b p v w r fa fb fr h e exact =
+    let s = to_z-of_z w16 a fa in
+    let t = to_z-of_z w16 b fb in
+    to_z-of_z w16 r fr ∙ exact p (ap₂ (λ (x y : ℤ). spans_meet x y p p) s t ∙ h)
+    (ap (λ (x : ℤ). nat_abs (p -ℤ x) * w) s ∙ e ∙ sym (ap₂ (λ (x y : ℤ). nat_abs (y -ℤ x) * v) s t))

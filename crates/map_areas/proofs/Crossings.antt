@@ -8,7 +8,7 @@ use Rattle.map_plane.specs.declared.places.PlacedLine.{PlacedLine}
 use Rattle.map_tables.specs.Tables.{Tables}
 use Rattle.map_areas.specs.Refusals.{AreEdgesRefused, CrossWhole, CrossesBetween, IsEdgeRefusal}
 use Rattle.map_areas.specs.declared.error.AreaError.{AreaError}
-use Rattle.map_areas.specs.declared.error.AreaError.TheVariants.{Crossing, NotAPolygon, NotDrawn, NotEmpty, OutOfMemory, OutOfRange, OverVertex, Refused, SeveralSectors}
+use Rattle.map_areas.specs.declared.error.AreaError.TheVariants.{Crossing, NotAPolygon, NotEmpty, OutOfMemory, OutOfRange, OverVertex, Refused, SeveralSectors}
 
 -- no line with a number at all
 pub crosses_all : (m : Tables) (ls : List PlacedLine) (e : PlacedLine) (n : ℕ) → ls ≡ placed_lines m → length m.lines ≤ n
@@ -27,7 +27,6 @@ whole_all ls es n le none i h =
 
 -- a refusal for one of the edges is one for all
 pub edge_refused : (ls es : List PlacedLine) (k : ℕ) (e : PlacedLine) → slice_get es k ≡ Some e → (r : AreaError) → IsEdgeRefusal ls e r → AreEdgesRefused ls es r
-edge_refused ls es k e is NotDrawn h = tt
 edge_refused ls es k e is OutOfRange h = absurd h
 edge_refused ls es k e is (NotAPolygon corner) h = absurd h
 edge_refused ls es k e is (Crossing line near) h = (k, e, is, h)

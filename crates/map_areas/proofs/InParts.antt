@@ -25,7 +25,7 @@ use Rattle.map_areas.specs.Ways.{is_between}
 -- ---- the cuts of a line
 
 -- each of them is at least as far along it as the first one
-none_behind : (l : PlacedLine) (a : Vertex) (ps : List Vertex) → are_cuts l a ps ≡ true → (v : Vertex) → list_any (is_at v) ps ≡ true → far l a <ℤ far l v
+pub none_behind : (l : PlacedLine) (a : Vertex) (ps : List Vertex) → are_cuts l a ps ≡ true → (v : Vertex) → list_any (is_at v) ps ≡ true → far l a <ℤ far l v
 none_behind l a [] cuts v h = cc
 none_behind l a (p ∷ ps) cuts v h =
     let two = and_both (is_between l p && comes_first l a p) (are_cuts l p ps) cuts in

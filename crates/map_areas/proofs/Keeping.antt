@@ -1,5 +1,5 @@
 -- What commands keep of a map, one after another.
-use Rattle.std.proofs.Common.{All, List, [], ◌∷◌, ◌++◌, refl, sym, ap, ◌∙◌, subst, append_assoc, append-nil}
+use Rattle.std.proofs.Common.{All, List, [], ◌∷◌, ◌++◌, refl, sym, ap, ◌∙◌, append_assoc, append-nil}
 use Rattle.std.proofs.lemmas.List.Elements.{All-head, All-tail}
 use Rattle.map_tables.specs.Edits.{after_edit}
 use Rattle.map_tables.specs.Tables.{Tables}
@@ -9,7 +9,7 @@ use Rattle.map_tables.specs.declared.edit.Item.TheVariants as item
 use Rattle.map_commands.specs.Step.{after}
 use Rattle.map_commands.specs.declared.command.Command.{Command}
 use Rattle.map_commands.specs.declared.command.Command.TheVariants as command
-use Rattle.map_areas.specs.Drawn.{TakesCommand, drawn}
+use Rattle.map_areas.specs.Drawn.{drawn}
 use Rattle.map_areas.specs.Stays.{Continues, Draws, IsDrawing, KeepsItems}
 
 -- nothing was added
@@ -93,11 +93,6 @@ command_keeps m (command.Split s) h = record {
 }
 command_keeps m (command.Name n) h = absurd h
 command_keeps m (command.Room r) h = absurd h
-
--- a command that a map takes
-pub taken_keeps : (a m : Tables) (c : Command) (new : Tables) → KeepsItems a m → TakesCommand m c new → KeepsItems a new
-taken_keeps a m c new h t =
-    keeps_then a m new h (subst (λ (n : Tables). KeepsItems m n) (sym t.left) (command_keeps m c t.draws))
 
 -- commands that draw
 pub keeps_drawing : (m : Tables) (cs : List Command) → All Draws cs → KeepsItems m (drawn m cs)

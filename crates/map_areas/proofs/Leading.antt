@@ -1,6 +1,6 @@
 -- Commands in turn: one more command, and the outcome of an edit and of a cut.
-use Rattle.std.proofs.Common.{◌≡◌, ℕ, zero, suc, ◌+◌, ◌<◌, ◌≤◌, Bool, true, false, ◌&&◌, ◌||◌, ◌==◌, not, List, [], ◌∷◌, ◌++◌, length, get_or, take, nat_lt, Option, Some, None, Result, Ok, Err, refl, sym, ap, ◌∙◌, subst, arith}
-use Rattle.std.proofs.lemmas.List.{take_more, take_all, length-set}
+use Rattle.std.proofs.Common.{◌≡◌, ℕ, zero, suc, ◌+◌, ◌<◌, Bool, true, false, ◌&&◌, ◌||◌, ◌==◌, not, List, [], ◌∷◌, ◌++◌, length, get_or, nat_lt, Option, Some, None, Result, Ok, Err, refl, sym, ap, ◌∙◌, subst, arith}
+use Rattle.std.proofs.lemmas.List.{length-set}
 use Rattle.lump_records.specs.Limits.{item_limit}
 use Rattle.lump_records.specs.declared.records.Line.{Line}
 use Rattle.map_tables.specs.EditFaults.{edit_faults}
@@ -35,25 +35,15 @@ edited-made m e t n h = unless-ok (least (edit_faults m e)) (after_edit m e) t (
 
 -- ---- one more command
 
-LeadTo-more : (old : Tables) (cs : List Command) (mid : Tables) (c : Command) (new : Tables) → LeadTo old cs mid → TakesCommand mid c new → LeadTo old (cs ++ c ∷ []) new
+pub LeadTo-more : (old : Tables) (cs : List Command) (mid : Tables) (c : Command) (new : Tables) → LeadTo old cs mid → TakesCommand mid c new → LeadTo old (cs ++ c ∷ []) new
 LeadTo-more old [] mid c new h t =
     subst (λ (m : Tables). InRange c × (least (faults m c) ≡ None) × (new ≡ after m c)) h (t.range, t.accepted, t.left)
 LeadTo-more old (d ∷ ds) mid c new h t = (h.0, h.1, LeadTo-more (after old d) ds mid c new h.2 t)
-
--- one more command of a list
-pub LeadTo-step : (old : Tables) (cs : List Command) (i : ℕ) (mid : Tables) (d : Command) (new : Tables) → i < length cs
-    → LeadTo old (take i cs) mid → TakesCommand mid (get_or cs i d) new → LeadTo old (take (i + 1) cs) new
-LeadTo-step old cs i mid d new lt h t =
-    subst (λ (ds : List Command). LeadTo old ds new) (sym (take_more cs i d lt)) (LeadTo-more old (take i cs) mid (get_or cs i d) new h t)
 
 -- the map that commands lead to is the one that they leave
 pub LeadTo-drawn : (old : Tables) (cs : List Command) (new : Tables) → LeadTo old cs new → new ≡ drawn old cs
 LeadTo-drawn old [] new h = h
 LeadTo-drawn old (c ∷ cs) new h = LeadTo-drawn (after old c) cs new h.2
-
--- all commands of a list
-pub LeadTo-all : (old : Tables) (cs : List Command) (n : ℕ) (new : Tables) → length cs ≤ n → LeadTo old (take n cs) new → LeadTo old cs new
-LeadTo-all old cs n new le h = subst (λ (ds : List Command). LeadTo old ds new) (take_all n cs le) h
 
 -- commands that are taken in turn are in range
 pub LeadTo-range : (old : Tables) (cs : List Command) (new : Tables) → LeadTo old cs new → (k : ℕ) (d : Command) → k < length cs → InRange (get_or cs k d)

@@ -2,8 +2,13 @@ pub mod Leading
 pub mod Copies
 pub mod Crossed
 pub mod Keeping
-pub mod Others
-pub mod LeftAlone
+pub mod Steps
+pub mod Walled
+pub mod Sofar
+pub mod Halves
+pub mod Fits
+pub mod Facing
+pub mod OnBorder
 pub mod Whole
 pub mod Bordering
 pub mod Further
@@ -14,7 +19,10 @@ pub mod Refused
 pub mod Crossings
 pub mod Standing
 pub mod AlongLines
+pub mod Between
 pub mod Led
+pub mod Rests
+pub mod Corners
 pub mod InOrder
 pub mod Any
 pub mod InTurn

@@ -50,7 +50,7 @@ corners_in_range cs h = by (runs_clockwise (outline_edges cs))
     by true = numbered_in_range (reverse cs) (reverse cs) 0 turned
     by false = numbered_in_range cs cs 0 h
 
-length-outline : (cs : List Vertex) → length (outline_edges cs) ≡ length cs
+pub length-outline : (cs : List Vertex) → length (outline_edges cs) ≡ length cs
 length-outline cs = length-map (enumerate_from 0 cs) (edge_from cs) ∙ length-enumerate_from 0 cs
 
 none_of : (o : Option Vertex) (b : Bool) (v : Vertex) → option_or o (if b then Some v else None) ≡ None → b ≡ false

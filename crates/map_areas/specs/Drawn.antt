@@ -1,5 +1,5 @@
 -- Commands that are drawn in turn into a map.
-use Rattle.std.specs.Prelude.{◌≡◌, ℕ, true, All, List, [], ◌∷◌, None, Option, Some, fold}
+use Rattle.std.specs.Prelude.{◌≡◌, ◌⊎◌, ℕ, true, All, List, [], ◌∷◌, None, Option, Some, fold}
 use Rattle.std.specs.List.{list_any}
 use Rattle.std.specs.Option.{option_or}
 use Rattle.map_plane.specs.Meeting.{is_on}
@@ -7,6 +7,7 @@ use Rattle.map_plane.specs.declared.places.PlacedLine.{PlacedLine}
 use Rattle.map_tables.specs.Errors.{code_of}
 use Rattle.map_tables.specs.Outcomes.{least}
 use Rattle.map_tables.specs.Tables.{Tables}
+use Rattle.map_tables.specs.declared.error.MapError.TheVariants.{LineTooLong, TableFull}
 use Rattle.map_tables.specs.declared.edit.Edit.TheVariants.{Add}
 use Rattle.map_tables.specs.declared.edit.Item.TheVariants as item
 use Rattle.map_commands.specs.Step.{InRange, after, faults}
@@ -14,7 +15,7 @@ use Rattle.map_commands.specs.declared.command.Command.{Command}
 use Rattle.map_commands.specs.declared.command.Command.TheVariants as command
 use Rattle.map_areas.specs.Stays.{Draws}
 use Rattle.map_areas.specs.declared.error.AreaError.{AreaError}
-use Rattle.map_areas.specs.declared.error.AreaError.TheVariants.{NotDrawn, OutOfMemory, Refused}
+use Rattle.map_areas.specs.declared.error.AreaError.TheVariants.{OutOfMemory, Refused}
 
 -- the map accepts the command, which draws, and leaves another map
 pub record TakesCommand (old : Tables) (c : Command) (new : Tables) : Type 0 where
@@ -48,8 +49,14 @@ pub record DrawsOn (es : List PlacedLine) (c : Command) : Type 0 where
   pub draws : Draws c
   pub outline : IsOnOutline es c
 
--- commands that draw so are accepted in turn, and the map that they lead to refuses one more with the code
+-- a table is full, or a line is too long
+abbrev pub IsOfRoom : ℕ → Type 0
+IsOfRoom code = (code ≡ code_of TableFull) ⊎ (code ≡ code_of LineTooLong)
+
+-- commands that draw so are accepted in turn, and the map that they lead to refuses one more with the code: for want of
+-- room or for its length
 pub record RefusesInTurn (es : List PlacedLine) (old : Tables) (code : ℕ) : Type 0 where
+  pub room : IsOfRoom code
   pub before : List Command
   pub drawing : All (DrawsOn es) before
   pub new : Tables
@@ -58,22 +65,15 @@ pub record RefusesInTurn (es : List PlacedLine) (old : Tables) (code : ℕ) : Ty
   pub draws : DrawsOn es next
   pub refused : least (faults new next) ≡ Some code
 
--- the map refuses the command so, or it doesn't pass its trial, or memory lacks
+-- the map refuses the command so, or memory lacks
 abbrev pub IsFaultOf : Tables → Command → AreaError → Type 0
 IsFaultOf m c (Refused e) = least (faults m c) ≡ Some (code_of e)
-IsFaultOf m c NotDrawn = Unit {0}
 IsFaultOf m c OutOfMemory = Unit {0}
 IsFaultOf m c e = ⊥
-
--- the map refuses so a command that draws on the edges
-abbrev pub RefusesOnEdges : Tables → List PlacedLine → Command → AreaError → Type 0
-RefusesOnEdges m es c (Refused e) = DrawsOn es c × IsFaultOf m c (Refused e)
-RefusesOnEdges m es c e = IsFaultOf m c e
 
 -- the first of commands, drawn in turn on the edges, that the map doesn't take is refused so
 abbrev pub RefusesDrawing : Tables → List PlacedLine → AreaError → Type 0
 RefusesDrawing m es (Refused e) = RefusesInTurn es m (code_of e)
-RefusesDrawing m es NotDrawn = Unit {0}
 RefusesDrawing m es OutOfMemory = Unit {0}
 RefusesDrawing m es e = ⊥
 

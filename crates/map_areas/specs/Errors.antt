@@ -1,7 +1,7 @@
 -- The numbers of the refusals.
 use Rattle.std.specs.Prelude.{◌≡◌, ℕ}
 use Rattle.map_areas.specs.declared.error.AreaError.{AreaError}
-use Rattle.map_areas.specs.declared.error.AreaError.TheVariants.{OutOfRange, NotAPolygon, Crossing, SeveralSectors, NotEmpty, OverVertex, Refused, NotDrawn, OutOfMemory}
+use Rattle.map_areas.specs.declared.error.AreaError.TheVariants.{OutOfRange, NotAPolygon, Crossing, SeveralSectors, NotEmpty, OverVertex, Refused, OutOfMemory}
 use Rattle.map_tables.specs.Errors as of_map
 use Rattle.map_tables.specs.declared.error.MapError.{MapError}
 use Rattle.map_tables.specs.declared.error.MapError.TheVariants as map_error
@@ -15,19 +15,12 @@ code_of (SeveralSectors first second) = 27
 code_of (NotEmpty line) = 28
 code_of (OverVertex vertex) = 28
 code_of (Refused e) = of_map.code_of e
-code_of NotDrawn = 2
 code_of OutOfMemory = 31
 
 -- the refusal of a command that a map refuses
 abbrev pub refused_as : MapError → AreaError
 refused_as map_error.OutOfMemory = OutOfMemory
 refused_as e = Refused e
-
--- commands don't pass their trial, or memory lacks
-abbrev pub IsOfTrial : AreaError → Type 0
-IsOfTrial NotDrawn = Unit {0}
-IsOfTrial OutOfMemory = Unit {0}
-IsOfTrial e = ⊥
 
 -- the refusal is lack of memory
 abbrev pub IsOfMemory : AreaError → Type 0

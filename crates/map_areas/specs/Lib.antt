@@ -3,7 +3,6 @@ pub mod Drawn
 pub mod Stays
 pub mod Outlines
 pub mod Apart
-pub mod Changes
 pub mod Ways
 pub mod Bordered
 pub mod Areas
@@ -14,3 +13,4 @@ pub mod Inside
 pub mod Cuts
 pub mod Order
 pub mod InRange
+pub mod Drawings

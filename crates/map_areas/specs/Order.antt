@@ -4,7 +4,7 @@ use Rattle.map_plane.specs.Places.{placed_lines}
 use Rattle.map_plane.specs.declared.places.PlacedLine.{PlacedLine}
 use Rattle.map_tables.specs.Tables.{Tables}
 use Rattle.map_areas.specs.declared.error.AreaError.{AreaError}
-use Rattle.map_areas.specs.declared.error.AreaError.TheVariants.{Crossing, NotEmpty, NotDrawn, OutOfMemory, Refused, SeveralSectors}
+use Rattle.map_areas.specs.declared.error.AreaError.TheVariants.{Crossing, NotEmpty, OutOfMemory, Refused, SeveralSectors}
 use Rattle.map_areas.specs.declared.error.Part.{Part}
 use Rattle.map_areas.specs.Apart.{doubled}
 use Rattle.map_areas.specs.Refusals.{CrossWhole, LiesInVoid, are_several}
@@ -12,7 +12,6 @@ use Rattle.map_areas.specs.Refusals.{CrossWhole, LiesInVoid, are_several}
 -- the refusal is that of an edge that crosses a line at no whole place
 abbrev pub IsOfCrossing : AreaError → Type 0
 IsOfCrossing (Crossing line near) = Unit {0}
-IsOfCrossing NotDrawn = Unit {0}
 IsOfCrossing OutOfMemory = Unit {0}
 IsOfCrossing e = ⊥
 
@@ -20,7 +19,6 @@ IsOfCrossing e = ⊥
 abbrev pub IsOfRound : AreaError → Type 0
 IsOfRound (SeveralSectors first second) = Unit {0}
 IsOfRound (NotEmpty line) = Unit {0}
-IsOfRound NotDrawn = Unit {0}
 IsOfRound OutOfMemory = Unit {0}
 IsOfRound e = ⊥
 

@@ -11,7 +11,7 @@ use Rattle.map_plane.specs.Polygon.{is_inside}
 use Rattle.map_plane.specs.declared.places.PlacedLine.{PlacedLine}
 use Rattle.map_tables.specs.Tables.{Tables}
 use Rattle.map_areas.specs.declared.error.AreaError.{AreaError}
-use Rattle.map_areas.specs.declared.error.AreaError.TheVariants.{Crossing, NotAPolygon, NotDrawn, NotEmpty, OutOfMemory, OutOfRange, OverVertex, Refused, SeveralSectors}
+use Rattle.map_areas.specs.declared.error.AreaError.TheVariants.{Crossing, NotAPolygon, NotEmpty, OutOfMemory, OutOfRange, OverVertex, Refused, SeveralSectors}
 use Rattle.map_areas.specs.declared.error.Part.{Part}
 use Rattle.map_areas.specs.Drawn.{RefusesInTurn, first_refusal}
 use Rattle.map_areas.specs.Inside.{IsPartInside}
@@ -103,13 +103,11 @@ CrossesBetween ls e n = (l : PlacedLine) × (slice_get ls n ≡ Some l) × (cros
 -- the crossing of an edge and the line with the number is refused with 26 only if no whole place lies on both
 abbrev pub IsCrossingRefusal : PlacedLine → PlacedLine → ℕ → AreaError → Type 0
 IsCrossingRefusal e l n (Crossing line near) = (line ≡ n) × HaveNoPlace e l
-IsCrossingRefusal e l n NotDrawn = Unit {0}
 IsCrossingRefusal e l n _ = ⊥
 
 -- an edge is refused with 26 only if it crosses the line so
 abbrev pub IsEdgeRefusal : List PlacedLine → PlacedLine → AreaError → Type 0
 IsEdgeRefusal ls e (Crossing line near) = CrossesBetween ls e line
-IsEdgeRefusal ls e NotDrawn = Unit {0}
 IsEdgeRefusal ls e OutOfMemory = Unit {0}
 IsEdgeRefusal ls e _ = ⊥
 
@@ -120,7 +118,6 @@ OneCrosses ls es n = (k : ℕ) × (e : PlacedLine) × (slice_get es k ≡ Some e
 -- the same of the edges of an outline
 abbrev pub AreEdgesRefused : List PlacedLine → List PlacedLine → AreaError → Type 0
 AreEdgesRefused ls es (Crossing line near) = OneCrosses ls es line
-AreEdgesRefused ls es NotDrawn = Unit {0}
 AreEdgesRefused ls es OutOfMemory = Unit {0}
 AreEdgesRefused ls es _ = ⊥
 
@@ -131,7 +128,6 @@ CrossWhole ls es = (n : ℕ) → OneCrosses ls es n → ⊥
 -- the refusal is that of a border along which there are several sectors
 abbrev pub IsOfSectors : AreaError → Type 0
 IsOfSectors (SeveralSectors first second) = Unit {0}
-IsOfSectors NotDrawn = Unit {0}
 IsOfSectors e = ⊥
 
 -- a part of the border leads along an edge from stop to stop, meets nothing between, and has on its right, which is

@@ -1,42 +1,39 @@
 //! Areas: polygons that become sectors.
-ghost use Rattle.std.specs.Prelude.{◌≡◌, ℕ, All, IfErr, IfOk, OnOk};
+ghost use Rattle.std.specs.Prelude.{◌≡◌, ◌<◌, ℕ, All, IfErr, IfOk, OnOk, false, length, true};
 ghost use Rattle.std.specs.List.{list_any};
 ghost use Rattle.lump_records.specs.declared.records.Vertex.{Vertex};
-ghost use Rattle.map_areas.specs.Apart.{KeepsAlone, doubled};
-ghost use Rattle.map_areas.specs.Cuts.{IsLed, IsWalled, uncut};
-ghost use Rattle.map_areas.specs.Changes.{KeepsUnchanged};
-ghost use Rattle.map_areas.specs.Drawn.{AreTaken, drawn};
-ghost use Rattle.map_areas.specs.Errors.{IsOfMap, IsOfTrial};
+ghost use Rattle.map_areas.specs.Apart.{doubled};
+ghost use Rattle.map_areas.specs.Cuts.{IsCutWhole, IsLed, IsWalled, uncut};
+ghost use Rattle.map_areas.specs.Drawings.{IsCutOnBorder, IsUnderway, IsOnBorder};
+ghost use Rattle.map_areas.specs.Drawn.{AreTaken, RefusesDrawing, drawn};
+ghost use Rattle.map_areas.specs.Errors.{IsOfMap};
 ghost use Rattle.map_areas.specs.Areas.{AcceptsArea, DrawsArea, RefusesArea};
 ghost use Rattle.map_areas.specs.InRange.{IsAreaInRange, JudgesRange};
 ghost use Rattle.map_areas.specs.Inside.{is_border_stop};
 ghost use Rattle.map_areas.specs.Order.{ComesAfterSectors, ComesInOrder, IsOfRound, MayBecome};
+ghost use Rattle.map_areas.specs.Outlines.{edges_round};
 ghost use Rattle.map_areas.specs.Refusals.{IsAreaRefusal, LiesInVoid};
-ghost use Rattle.map_areas.specs.Stays.{BecomesLine, BecomesSide, EachBecomes};
 ghost use Rattle.map_areas.specs.declared.error.AreaError.TheVariants.{OutOfRange};
 ghost use Rattle.map_commands.specs.Step.{InRange};
 ghost use Rattle.map_plane.specs.Meeting.{is_at};
 ghost use Rattle.map_plane.specs.Places.{placed_lines};
+ghost use Rattle.map_tables.specs.Ranges.{IsNamed, IsSector, is_name};
 ghost use Rattle.map_tables.specs.WellFormed.{WellFormed};
 
-use crate::alone::find_alone;
 use crate::border::{Border, border_of};
-use crate::bordered::find_bordered;
-use crate::changes::changing_of;
-use crate::drawing::{Drawing, Paint, drawing_of};
+use crate::drawing::{Drawing, drawing_of};
 use crate::error::AreaError;
 use crate::inside::find_empty;
-use crate::kept::find_kept;
 use crate::polygon::polygon;
 use crate::ranges::is_area_in_range;
 use crate::round::sector_round;
-use crate::trial::try_commands;
+use crate::sharing::Paint;
 use crate::ways::{Ground, ground_of};
 use lump_records::{Name8, Sector, Vertex};
 use map_commands::Command;
 use map_plane::{PlacedLine, placed_lines};
 use map_tables::{Kind, Map};
-use std::alloc::{AllocError, Global};
+use std::alloc::Global;
 
 /// A polygon that becomes a sector. Its corners are in order, either way round; WALL is the texture of its walls.
 #[derive(Drop)]
@@ -54,10 +51,11 @@ fn find_round(
     ground: &Ground,
     border: &Border,
 ) -> Result<Option<u16>, AreaError>
-    requires vertices { ground.now.vertices.items ≡ map.now.tables.vertices }
     requires lines { ground.now.lines.items ≡ placed_lines map.now.tables }
     requires doubled { ground.now.doubled.items ≡ doubled (placed_lines map.now.tables) }
     requires edges { uncut border.now.cut_edges.items ≡ border.now.edges.items }
+    requires some { 0 < length border.now.cut_edges.items }
+    requires cut { All (IsCutWhole map.now.tables) border.now.cut_edges.items }
     requires stops { (p : Vertex) → list_any (is_at p) border.now.stops.items
         ≡ is_border_stop map.now.tables border.now.edges.items p }
     ensures led { IfOk result (λ round. All (IsLed map.now.tables round)
@@ -74,53 +72,37 @@ fn find_round(
     Ok(round)
 }
 
-// Draws the area, whose border may be drawn, into a plan of the map.
+// Draws an area with this sector, whose border may be drawn, into a copy of the map.
 fn draw(
-    alloc: Global,
-    drawing: &mut Drawing,
-    sector: Sector,
-    paint: &Paint,
-    border: &Border,
-) -> Result<(), AllocError> {
-    drawing.plan.add_sector(sector)?;
-    drawing.add_vertices(border)?;
-    let lines = drawing.plan.placed_lines(alloc)?;
-    drawing.draw_border(&lines, paint, border)?;
-    if paint.round.is_some() {
-        drawing.turn_inside(&lines, paint, border)?;
-    }
-    Ok(())
-}
-
-// Refuses commands that would leave the second map, if something else becomes of what was there than an area makes of
-// it, or lines don't lead along the border.
-fn look_at(
     alloc: Global,
     map: &Map,
     ground: &Ground,
-    new: &Map,
-    paint: &Paint,
     border: &Border,
-    changing: &[Command],
-) -> Result<(), AreaError>
-    requires well_formed { WellFormed map.now.tables }
-    requires others { KeepsUnchanged changing.now map.now.tables new.now.tables }
+    paint: &Paint,
+    sector: Sector,
+) -> Result<Drawing, AreaError>
     requires lines { ground.now.lines.items ≡ placed_lines map.now.tables }
     requires doubled { ground.now.doubled.items ≡ doubled (placed_lines map.now.tables) }
-    ensures sides { OnOk result (EachBecomes (BecomesSide paint.now.round paint.now.sector)
-        map.now.tables.sides new.now.tables.sides) }
-    ensures lines { OnOk result
-        (EachBecomes BecomesLine map.now.tables.lines new.now.tables.lines) }
-    ensures alone { OnOk result ((n : ℕ) → KeepsAlone border.now.edges.items
-        border.now.doubled.items map.now.tables new.now.tables n) }
-    ensures walled { OnOk result (All (IsWalled map.now.tables new.now.tables paint.now.sector)
-        border.now.cut_edges.items) }
-    ensures refused { IfErr result IsOfTrial }
+    requires stops { All (IsOnBorder border.now.edges.items) border.now.stops.items }
+    requires edges { All (IsCutOnBorder border.now.edges.items) border.now.cut_edges.items }
+    requires led { All (IsLed map.now.tables paint.now.round) border.now.cut_edges.items }
+    requires sector { IsSector sector }
+    requires wall { IsNamed is_name paint.now.wall }
+    requires number { paint.now.sector ≡ length map.now.tables.sectors }
+    requires well_formed { WellFormed map.now.tables }
+    ensures drawn { IfOk result (IsUnderway map.now.tables border.now paint.now.round) }
+    ensures walled { IfOk result (λ drawing. All (IsWalled map.now.tables drawing.map.tables
+        paint.now.sector) border.now.cut_edges.items) }
+    ensures refused { IfErr result (RefusesDrawing map.now.tables border.now.edges.items) }
 {
-    find_kept(map, new, paint.round, paint.sector, changing)?;
-    find_alone(map, new, border, changing)?;
-    let lines = placed_lines(alloc, new)?;
-    find_bordered(map, ground, new, &lines, paint.sector, border)
+    let round = paint.round;
+    let mut drawing = drawing_of(alloc, map, border, round, sector)?;
+    drawing.cut_lines(alloc, map, ground, border, round)?;
+    drawing.add_stops(map, border, round)?;
+    let lines = placed_lines(alloc, &drawing.map)?;
+    drawing.draw_border(map, ground, border, paint, &lines)?;
+    drawing.turn_inside(map, ground, border, paint, &lines)?;
+    Ok(drawing)
 }
 
 // The commands that draw the area, whose edges run clockwise, into the map.
@@ -130,6 +112,10 @@ fn commands_within(
     area: &Area,
     edges: Vec<PlacedLine>,
 ) -> Result<Vec<Command>, AreaError>
+    requires some { 0 < length edges.items }
+    requires long { All (λ e. is_at e.from e.to ≡ false) edges.items }
+    requires round { edges.items ≡ edges_round true area.now.corners.items }
+    requires in_range { IsAreaInRange area.now }
     ensures range { IfOk result (λ commands. All InRange commands.items) }
     ensures taken { IfOk result (λ commands. AreTaken map.now.tables commands.items) }
     ensures area { IfOk result (λ commands.
@@ -143,21 +129,14 @@ fn commands_within(
     let ground = ground_of(alloc, map)?;
     let border = border_of(alloc, map, &ground, edges)?;
     let round = find_round(alloc, map, &ground, &border)?;
-    let mut drawing = drawing_of(alloc, map)?;
-    drawing.cut_lines(alloc, &ground.lines, &border)?;
     let sectors = map.count(Kind::Sector);
     let paint = Paint {
         sector: sectors as u16,
         round,
         wall: area.wall,
     };
-    draw(alloc, &mut drawing, area.sector, &paint, &border)?;
-    let commands = drawing.into_commands();
-    let all = commands.as_slice();
-    let new = try_commands(alloc, map, &border.edges, all)?;
-    let changing = changing_of(alloc, all)?;
-    look_at(alloc, map, &ground, &new, &paint, &border, &changing)?;
-    Ok(commands)
+    let drawing = draw(alloc, map, &ground, &border, &paint, area.sector)?;
+    Ok(drawing.into_commands())
 }
 
 // Refuses an area of which a number or a name isn't in its range.

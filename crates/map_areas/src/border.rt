@@ -1,10 +1,10 @@
 //! The border of a polygon: its edges, and the places at which they are cut.
-ghost use Rattle.std.specs.Prelude.{◌≡◌, ◌≤◌, ◌&&◌, ◌||◌, ℕ, All, IfErr, IfOk, OnOk, false, slice_get, true};
+ghost use Rattle.std.specs.Prelude.{◌≡◌, ◌<◌, ◌≤◌, ◌&&◌, ◌||◌, ℕ, All, IfErr, IfOk, OnOk, false, length, slice_get, true};
 ghost use Rattle.std.specs.List.{list_any};
 ghost use Rattle.std.specs.Option.{option_map_or};
 ghost use Rattle.lump_records.specs.declared.records.Vertex.{Vertex};
 ghost use Rattle.map_areas.specs.Apart.{doubled, doubled_line, place_sum};
-ghost use Rattle.map_areas.specs.Cuts.{IsCutWhereMet, are_cuts, is_cut_at, uncut};
+ghost use Rattle.map_areas.specs.Cuts.{IsCutWhole, are_cuts, is_cut_at, uncut};
 ghost use Rattle.map_areas.specs.Inside.{holds_middle, is_border_stop};
 ghost use Rattle.map_areas.specs.Order.{IsOfCrossing};
 ghost use Rattle.map_areas.specs.Refusals.{AreEdgesRefused, CrossWhole, CrossesBetween, IsAreaRefusal, IsCrossingRefusal, IsEdgeRefusal};
@@ -13,7 +13,7 @@ ghost use Rattle.map_areas.specs.Ways.{crosses_way, is_between};
 ghost use Rattle.map_plane.specs.Meeting.{is_at, is_on};
 ghost use Rattle.map_plane.specs.Places.{placed_lines};
 
-use crate::crossing::{may_meet, near_crossing};
+use crate::crossing::near_crossing;
 use crate::cuts::{cuts_of, put_along};
 use crate::error::AreaError;
 use crate::ways::{Ground, crosses_way, line_at};
@@ -84,9 +84,6 @@ fn crossing(edge: &PlacedLine, line: &PlacedLine, number: u16) -> Result<Vertex,
     if is_on(edge, near) && is_on(line, near) {
         return Ok(near);
     }
-    if may_meet(edge, line) {
-        return Err(AreaError::NotDrawn);
-    }
     Err(AreaError::Crossing { line: number, near })
 }
 
@@ -151,8 +148,9 @@ fn cut_edge(
 ) -> Result<CutEdge, AreaError>
     requires vertices { ground.now.vertices.items ≡ map.now.tables.vertices }
     requires lines { ground.now.lines.items ≡ placed_lines map.now.tables }
+    requires long { is_at edge.now.from edge.now.to ≡ false }
     ensures edge { IfOk result (λ cut. cut.edge ≡ edge.now) }
-    ensures met { IfOk result (IsCutWhereMet map.now.tables) }
+    ensures cut { IfOk result (IsCutWhole map.now.tables) }
     ensures whole { OnOk result
         ((n : ℕ) → CrossesBetween (placed_lines map.now.tables) edge.now n → ⊥) }
     ensures refused { IfErr result (IsEdgeRefusal (placed_lines map.now.tables) edge.now) }
@@ -171,8 +169,9 @@ fn cut_all(
 ) -> Result<Vec<CutEdge>, AreaError>
     requires vertices { ground.now.vertices.items ≡ map.now.tables.vertices }
     requires lines { ground.now.lines.items ≡ placed_lines map.now.tables }
+    requires long { All (λ e. is_at e.from e.to ≡ false) edges.now }
     ensures edges { IfOk result (λ cut. uncut cut.items ≡ edges.now) }
-    ensures met { IfOk result (λ cut. All (IsCutWhereMet map.now.tables) cut.items) }
+    ensures cut { IfOk result (λ cut. All (IsCutWhole map.now.tables) cut.items) }
     ensures whole { OnOk result (CrossWhole (placed_lines map.now.tables) edges.now) }
     ensures refused { IfErr result (AreEdgesRefused (placed_lines map.now.tables) edges.now) }
 {
@@ -208,9 +207,14 @@ pub(crate) fn border_of(
 ) -> Result<Border, AreaError>
     requires vertices { ground.now.vertices.items ≡ map.now.tables.vertices }
     requires lines { ground.now.lines.items ≡ placed_lines map.now.tables }
+    requires some { 0 < length edges.items }
+    requires long { All (λ e. is_at e.from e.to ≡ false) edges.items }
     ensures edges { IfOk result (λ border. border.edges.items ≡ edges.items) }
     ensures doubled { IfOk result (λ border. border.doubled.items ≡ doubled edges.items) }
     ensures cut_edges { IfOk result (λ border. uncut border.cut_edges.items ≡ edges.items) }
+    ensures some { IfOk result (λ border. 0 < length border.cut_edges.items) }
+    ensures cut { IfOk result (λ border.
+        All (IsCutWhole map.now.tables) border.cut_edges.items) }
     ensures stops { IfOk result (λ border. (p : Vertex) → list_any (is_at p) border.stops.items
         ≡ is_border_stop map.now.tables edges.items p) }
     ensures whole { OnOk result (CrossWhole (placed_lines map.now.tables) edges.items) }

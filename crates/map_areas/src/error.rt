@@ -34,9 +34,6 @@ pub enum AreaError {
     OverVertex { vertex: u16 },
     /// A command would be refused so: a table is full, or a line is too long.
     Refused(MapError),
-    /// The commands that would draw an area don't pass their trial, which is a fault of this crate. No pillar is
-    /// refused so.
-    NotDrawn,
     OutOfMemory,
 }
 
@@ -71,7 +68,6 @@ impl fmt::Display for AreaError {
             AreaError::NotEmpty { line } => write!(f, "line {line} is there"),
             AreaError::OverVertex { vertex } => write!(f, "vertex {vertex} is there"),
             AreaError::Refused(error) => write!(f, "{error}"),
-            AreaError::NotDrawn => f.write_str("its commands don't draw it"),
             AreaError::OutOfMemory => f.write_str("out of memory"),
         }
     }
@@ -121,7 +117,6 @@ impl AreaError {
             AreaError::NotEmpty { .. } => 28,
             AreaError::OverVertex { .. } => 28,
             AreaError::Refused(error) => error.code(),
-            AreaError::NotDrawn => 2,
             AreaError::OutOfMemory => 31,
         }
     }

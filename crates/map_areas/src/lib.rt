@@ -2,25 +2,25 @@
 #![tactic(auto)]
 
 mod alone;
+mod along;
 mod area;
 mod border;
-mod bordered;
-mod changes;
 mod crossing;
+mod cut_lines;
 mod cuts;
 mod drawing;
 mod error;
 mod inside;
-mod kept;
+mod lists;
 mod pillar;
 mod pillar_walls;
-mod plan;
 mod polygon;
 mod ranges;
 mod round;
+mod sharing;
+mod splitting;
 mod stops;
-mod trial;
-mod uses;
+mod turning;
 mod walls;
 mod ways;
 

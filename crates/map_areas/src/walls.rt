@@ -1,12 +1,11 @@
-//! The lines of a border: new ones, and those that are there.
-ghost use Rattle.std.specs.Prelude.{◌≡◌};
+//! The sides and lines of walls.
+ghost use Rattle.std.specs.Prelude.{◌≡◌, ◌≢◌, ◌≤◌, ◌⊎◌, IsTrue};
+ghost use Rattle.lump_records.specs.Sides.{is_two_sided, no_side};
 ghost use Rattle.map_areas.specs.Pillars.{solid_side};
-ghost use Rattle.map_areas.specs.Stays.{opened_flags};
+ghost use Rattle.map_areas.specs.Stays.{IsMadeOpen, TakesOver, opened_flags};
+ghost use Rattle.map_tables.specs.Ranges.{IsLine, IsNamed, IsSide, is_name};
 
-use crate::plan::Plan;
-use crate::uses::Uses;
 use lump_records::{Line, NO_SIDE, Name8, Side};
-use std::alloc::AllocError;
 
 /// The name that means "no texture".
 pub(crate) const NO_TEXTURE: Name8 = Name8 {
@@ -28,7 +27,12 @@ pub(crate) fn solid_side(wall: Name8, sector: u16) -> Side
 }
 
 /// A side with a texture above and below.
-pub(crate) fn open_side(wall: Name8, sector: u16) -> Side {
+pub(crate) fn open_side(wall: Name8, sector: u16) -> Side
+    requires wall { IsNamed is_name wall }
+    requires sector { sector ≤ 4095 }
+    ensures range { IsSide result }
+    ensures sector { result.sector ≡ sector }
+{
     Side {
         x_offset: 0,
         y_offset: 0,
@@ -39,19 +43,23 @@ pub(crate) fn open_side(wall: Name8, sector: u16) -> Side {
     }
 }
 
-// The side after its line became two-sided: the middle texture is above and below, where none was.
-fn opened(side: &Side) -> Side {
+// A side's texture after its line became two-sided: the middle one where none was.
+fn taken_over(was: Name8, middle: Name8) -> Name8
+    ensures { TakesOver was middle result }
+{
+    if was == NO_TEXTURE { middle } else { was }
+}
+
+/// The side after its line became two-sided: the middle texture is above and below, where none was.
+pub(crate) fn opened(side: &Side) -> Side
+    requires { IsSide side.now }
+    ensures range { IsSide result }
+    ensures opened { IsMadeOpen side.now result }
+    ensures sector { result.sector ≡ side.now.sector }
+{
     Side {
-        upper: if side.upper == NO_TEXTURE {
-            side.middle
-        } else {
-            side.upper
-        },
-        lower: if side.lower == NO_TEXTURE {
-            side.middle
-        } else {
-            side.lower
-        },
+        upper: taken_over(side.upper, side.middle),
+        lower: taken_over(side.lower, side.middle),
         middle: NO_TEXTURE,
         ..*side
     }
@@ -59,94 +67,26 @@ fn opened(side: &Side) -> Side {
 
 /// The flags with 4, two-sided, and without 1, which stops players.
 pub(crate) fn opened_flags(flags: u16) -> u16
-    ensures { result ≡ opened_flags flags }
+    ensures flags { result ≡ opened_flags flags }
+    ensures range { flags ≤ 32767 → result ≤ 32767 }
 {
     flags & 65534 | 4
 }
 
-/// Adds a side that one line will have.
-pub(crate) fn add_side(plan: &mut Plan, uses: &mut Uses, side: Side) -> Result<u16, AllocError> {
-    let number = plan.add_side(side)?;
-    uses.push()?;
-    Ok(number)
-}
-
-// Changes a side for one line alone, and answers the side's number: a new one if another line has it too.
-fn change_side(
-    plan: &mut Plan,
-    uses: &mut Uses,
-    number: u16,
-    side: Side,
-) -> Result<u16, AllocError> {
-    if uses.are_several(number) {
-        uses.take(number);
-        return add_side(plan, uses, side);
-    }
-    plan.set_side(number, side)?;
-    Ok(number)
-}
-
-/// Lets one side of a line face another sector.
-pub(crate) fn face(
-    plan: &mut Plan,
-    uses: &mut Uses,
-    number: u16,
-    on_right: bool,
-    sector: u16,
-) -> Result<(), AllocError> {
-    let Some(line) = plan.line(number) else {
-        return Ok(());
-    };
-    let old = if on_right { line.right } else { line.left };
-    let Some(side) = plan.side(old) else {
-        return Ok(());
-    };
-    let new = change_side(plan, uses, old, Side { sector, ..side })?;
-    if new == old {
-        return Ok(());
-    }
-    let line = if on_right {
-        Line { right: new, ..line }
-    } else {
-        Line { left: new, ..line }
-    };
-    plan.set_line(number, line)
-}
-
-/// Gives a line without a left side one that faces the sector: the line becomes two-sided.
-pub(crate) fn open(
-    plan: &mut Plan,
-    uses: &mut Uses,
-    number: u16,
-    wall: Name8,
-    sector: u16,
-) -> Result<(), AllocError> {
-    let Some(line) = plan.line(number) else {
-        return Ok(());
-    };
-    let Some(side) = plan.side(line.right) else {
-        return Ok(());
-    };
-    let right = change_side(plan, uses, line.right, opened(&side))?;
-    let left = add_side(plan, uses, open_side(wall, sector))?;
-    let line = Line {
-        flags: opened_flags(line.flags),
-        right,
-        left,
-        ..line
-    };
-    plan.set_line(number, line)
-}
-
-/// Adds a line between two vertices with these sides, of which the left one may be missing.
-pub(crate) fn add_wall(
-    plan: &mut Plan,
-    v1: u16,
-    v2: u16,
-    right: u16,
-    left: u16,
-) -> Result<u16, AllocError> {
-    plan.add_line(Line {
+/// A new line between two vertices with these sides, of which the left one may be missing.
+pub(crate) fn wall_between(v1: u16, v2: u16, right: u16, left: u16) -> Line
+    requires v1 { v1 ≤ 32766 }
+    requires v2 { v2 ≤ 32766 }
+    requires right { right ≤ 32766 }
+    requires left { (left ≤ 32766) ⊎ (left ≡ no_side) }
+    ensures range { IsLine result }
+    ensures v1 { result.v1 ≡ v1 }
+    ensures v2 { result.v2 ≡ v2 }
+    ensures right { result.right ≡ right }
+    ensures left { result.left ≡ left }
+    ensures two_sided { IsTrue (is_two_sided result) → result.left ≢ no_side }
+{
+    Line {
         v1,
         v2,
         flags: if left == NO_SIDE { 1 } else { 4 },
@@ -154,5 +94,5 @@ pub(crate) fn add_wall(
         tag: 0,
         right,
         left,
-    })
+    }
 }

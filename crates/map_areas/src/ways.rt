@@ -1,13 +1,14 @@
 //! The way from one place to another, and what was along it and on its left.
-ghost use Rattle.std.specs.Prelude.{◌≡◌, ◌&&◌, IfOk, find, slice_get};
+ghost use Rattle.std.specs.Prelude.{◌≡◌, ◌<◌, ◌&&◌, IfOk, IfSome, find, length, slice_get, true};
 ghost use Rattle.std.specs.List.{list_any};
 ghost use Rattle.map_areas.specs.Apart.{doubled};
-ghost use Rattle.map_areas.specs.Ways.{comes_before, crosses_way, faces_left, is_between, is_clear, is_left_of_way, is_same, left_faced, right_faced, runs_along, runs_with, sector_between, sector_by_side, sector_on_right, side_on_left, side_on_right, way};
+ghost use Rattle.map_areas.specs.Ways.{comes_before, crosses_way, faces_left, is_between, is_left_of_way, is_same, left_faced, right_faced, runs_along, runs_with, sector_between, sector_by_side, sector_on_right, side_on_left, side_on_right, way};
 ghost use Rattle.map_plane.specs.Meeting.{is_on, spans_meet};
 ghost use Rattle.map_plane.specs.Places.{placed_lines};
+ghost use Rattle.map_tables.specs.WellFormed.{WellFormed};
 
 use crate::border::{sum, twice};
-use crate::plan::vertices_of;
+use crate::lists::vertices_of;
 use lump_records::{Line, Vertex};
 use map_plane::{
     PlacedLine, boxes_meet, crosses, ends_at, is_on, nearest, placed_lines, sector_shown,
@@ -88,20 +89,6 @@ pub(crate) fn line_at(lines: &[PlacedLine], number: u32) -> Option<PlacedLine>
     ensures { result ≡ slice_get lines.now number }
 {
     lines.get(number as usize).copied()
-}
-
-// Whether one of the vertices lies on the way, between its ends.
-fn is_stopped(vertices: &[Vertex], way: &PlacedLine) -> bool
-    ensures { result ≡ list_any (is_between way.now) vertices.now }
-{
-    vertices.iter().any(|vertex| is_between(way, *vertex))
-}
-
-// Whether one of the lines crosses the way.
-fn is_crossed(lines: &[PlacedLine], way: &PlacedLine) -> bool
-    ensures { result ≡ list_any (crosses_way way.now) lines.now }
-{
-    lines.iter().any(|line| crosses_way(way, line))
 }
 
 /// Whether the line runs along the way, as far as it leads.
@@ -253,11 +240,16 @@ pub(crate) fn is_left_of_way(
     }
 }
 
-/// Whether no vertex lies on the way between its ends, and no line crosses it.
-pub(crate) fn is_clear(map: &Map, ground: &Ground, way: &PlacedLine) -> bool
-    requires vertices { ground.now.vertices.items ≡ map.now.tables.vertices }
+/// What is on the left of the way: what the first line along it faces there, or what its middle belongs to.
+pub(crate) fn left_of_way(map: &Map, ground: &Ground, way: &PlacedLine) -> Option<u16>
     requires lines { ground.now.lines.items ≡ placed_lines map.now.tables }
-    ensures { result ≡ is_clear map.now.tables way.now }
+    requires doubled { ground.now.doubled.items ≡ doubled (placed_lines map.now.tables) }
+    requires well_formed { WellFormed map.now.tables }
+    ensures left { is_left_of_way map.now.tables way.now result ≡ true }
+    ensures sector { IfSome result (λ s. s < length map.now.tables.sectors) }
 {
-    !is_stopped(&ground.vertices, way) && !is_crossed(&ground.lines, way)
+    match line_along(&ground.lines, way) {
+        Some(line) => left_faced(map, way, &line),
+        None => sector_between(map, ground, way),
+    }
 }

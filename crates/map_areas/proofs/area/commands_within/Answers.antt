@@ -1,49 +1,31 @@
-use Rattle.std.proofs.Common.{◌≡◌, ℕ, All, List, Option, ◌∙◌, ap, subst, sym}
+use Rattle.std.proofs.Common.{◌≡◌, ℕ, All, Global, List, Option, Vec, ◌∙◌, ap, length, refl, subst, sym, true}
 use Rattle.std.specs.List.{list_any}
 use Rattle.lump_records.specs.declared.records.Vertex.{Vertex}
 use Rattle.map_plane.specs.Meeting.{is_at}
 use Rattle.map_areas.specs.Inside.{is_border_stop}
+use Rattle.map_commands.specs.Step.{InRange}
 use Rattle.map_commands.specs.declared.command.Command.{Command}
 use Rattle.map_plane.specs.declared.places.PlacedLine.{PlacedLine}
 use Rattle.map_plane.specs.Places.{placed_lines}
 use Rattle.map_tables.specs.Tables.{Tables}
 use Rattle.map_areas.specs.Apart.{doubled}
 use Rattle.map_areas.specs.Cuts.{IsLed, uncut}
-use Rattle.map_areas.specs.Drawn.{LeadTo, RefusesDrawing}
+use Rattle.map_areas.specs.Areas.{DrawsArea}
+use Rattle.map_areas.specs.Drawings.{IsCutOnBorder, IsOnBorder}
+use Rattle.map_areas.specs.Drawn.{RefusesDrawing, drawn}
+use Rattle.map_areas.specs.Outlines.{edges_round}
+use Rattle.map_tables.specs.Ranges.{IsVertex}
 use Rattle.map_areas.specs.Errors.{IsOfMap}
 use Rattle.map_areas.specs.Order.{ComesAfterSectors, ComesInOrder, MayBecome}
 use Rattle.map_areas.specs.Refusals.{CrossWhole, LiesInVoid}
 use Rattle.map_areas.specs.declared.border.CutEdge.{CutEdge}
 use Rattle.map_areas.proofs.Bordering.{covered_all}
-use Rattle.map_areas.proofs.InOrder.{crossing_in_order, crossing_of_map, drawing_in_order, passed_on, trial_in_order, round_in_order, round_of_map}
+use Rattle.map_areas.proofs.InOrder.{crossing_in_order, crossing_of_map, drawing_in_order, passed_on, round_in_order, round_of_map}
 use Rattle.map_areas.proofs.Led.{not_several}
-use Rattle.map_areas.proofs.Others.{others_changing}
+use Rattle.map_areas.proofs.OnBorder.{AreEndsInRange, edges_on, round_in_range, stops_on}
+use Rattle.map_areas.proofs.Sofar.{drawing_keeps}
 use Rattle.map_areas.proofs.Whole.{bordered_drawn, stays_drawn}
 use Rattle.map_areas.proofs.area.commands_within.Goals as goal
-
-pub returns-clause-area : goal.returns-clause-area
-returns-clause-area c =
-    let m = c.args.map.now.tables in
-    let new = c.in_ok-new.new.tables in
-    let cs = c.into_commands-commands.result.items in
-    let es = c.args.edges.items in
-    let round = c.in_ok-round.round in
-    let led = subst (λ (ds : List Command). LeadTo m ds new) c.as_slice-all.ensures.value c.in_ok-new.ensures.taken in
-    let border = c.in_ok-border.border in
-    let edges = c.in_ok-border.ensures.edges in
-    let number = c.count-sectors.ensures.number in
-    let twice : border.doubled.items ≡ doubled border.edges.items =
-    c.in_ok-border.ensures.doubled ∙ ap (λ (ls : List PlacedLine). doubled ls) (sym edges) in
-    record {
-      round = round;
-      stays =
-          stays_drawn m new cs es border.edges.items border.doubled.items round c.count-sectors.result led edges twice number c.in_ok-new.ensures.stays
-          c.in_ok-look_at.ensures.sides c.in_ok-look_at.ensures.lines c.in_ok-look_at.ensures.alone;
-      border =
-          bordered_drawn m new cs es border.edges.items round c.count-sectors.result led edges number
-          (covered_all m new round c.count-sectors.result border.cut_edges.items border.edges.items (c.in_ok-border.ensures.cut_edges ∙ sym edges)
-          c.in_ok-round.ensures.led c.in_ok-look_at.ensures.walled);
-    }
 
 -- what is known once the border is followed
 becomes : (m : Tables) (round : Option ℕ) (cs : List CutEdge) (fs ds es : List PlacedLine) → fs ≡ es → ds ≡ doubled es → CrossWhole (placed_lines m) es → uncut cs ≡ es
@@ -58,6 +40,57 @@ returns-clause-becomes c =
     let border = c.in_ok-border.border in
     becomes c.args.map.now.tables c.in_ok-round.round border.cut_edges.items border.edges.items border.doubled.items c.args.edges.items c.in_ok-border.ensures.edges
     c.in_ok-border.ensures.doubled c.in_ok-border.ensures.whole c.in_ok-border.ensures.cut_edges c.in_ok-round.ensures.led c.in_ok-round.ensures.empty
+
+-- the edges are those of corners in range
+ends : (es : List PlacedLine) (cs : List Vertex) → es ≡ edges_round true cs → All IsVertex cs → All AreEndsInRange es
+ends es cs same h = subst (All AreEndsInRange) (sym same) (round_in_range cs h)
+
+pub draw-requires-clause-stops : goal.draw-requires-clause-stops
+draw-requires-clause-stops c =
+    let m = c.args.map.now.tables in
+    let border = c.in_ok-border.border in
+    let es = c.args.edges.items in
+    subst (λ (ls : List PlacedLine). All (IsOnBorder ls) border.stops.items) (sym c.in_ok-border.ensures.edges)
+    (stops_on m es border.stops.items (ends es c.args.area.now.corners.items c.requires.round c.requires.in_range.corners) c.in_ok-border.ensures.stops)
+
+pub draw-requires-clause-edges : goal.draw-requires-clause-edges
+draw-requires-clause-edges c =
+    let m = c.args.map.now.tables in
+    let border = c.in_ok-border.border in
+    let es = c.args.edges.items in
+    subst (λ (ls : List PlacedLine). All (IsCutOnBorder ls) border.cut_edges.items) (sym c.in_ok-border.ensures.edges)
+    (edges_on m c.in_ok-round.round border.cut_edges.items es c.in_ok-border.ensures.cut_edges
+    (ends es c.args.area.now.corners.items c.requires.round c.requires.in_range.corners) c.in_ok-round.ensures.led)
+
+pub returns-clause-range : goal.returns-clause-range
+returns-clause-range c =
+    subst (λ (v : Vec Command Global). All InRange v.items) (sym c.into_commands.ensures) (λ k d lt. (c.in_ok-drawing.ensures.drawn.led.drawing k d lt).range)
+
+pub returns-clause-area : goal.returns-clause-area
+returns-clause-area c =
+    let m = c.args.map.now.tables in
+    let drawing = c.in_ok-drawing.drawing in
+    let done = c.in_ok-drawing.ensures.drawn in
+    let new = drawing.map.tables in
+    let cs = drawing.commands.items in
+    let es = c.args.edges.items in
+    let round = c.in_ok-round.round in
+    let border = c.in_ok-border.border in
+    let edges = c.in_ok-border.ensures.edges in
+    let number = c.count-sectors.ensures.number in
+    let twice : border.doubled.items ≡ doubled border.edges.items =
+    c.in_ok-border.ensures.doubled ∙ ap (λ (ls : List PlacedLine). doubled ls) (sym edges) in
+    subst (λ (v : Vec Command Global). DrawsArea es m (drawn m v.items)) (sym c.into_commands.ensures)
+    (record {
+      round = round;
+      stays =
+          stays_drawn m new cs es border.edges.items border.doubled.items round (length m.sectors) done.led.led edges twice refl
+          (drawing_keeps m border drawing done.led) done.becoming.sides (λ n l is. let y = done.becoming.lines n l is in (y.0, y.1, y.2.line)) done.becoming.alone;
+      border =
+          bordered_drawn m new cs es border.edges.items round c.count-sectors.result done.led.led edges number
+          (covered_all m new round c.count-sectors.result border.cut_edges.items border.edges.items (c.in_ok-border.ensures.cut_edges ∙ sym edges)
+          c.in_ok-round.ensures.led c.in_ok-drawing.ensures.walled);
+    })
 
 pub find_round-requires-clause-stops : goal.find_round-requires-clause-stops
 find_round-requires-clause-stops c =
@@ -95,27 +128,14 @@ returns-in_err-round-clause-order c =
     (round_in_order m es e c.in_err-round.ensures.refused c.in_ok-border.ensures.whole
     (subst (λ (ls : List PlacedLine). ComesAfterSectors m ls e) c.in_ok-border.ensures.edges c.in_err-round.ensures.order))
 
-pub returns-in_err-new-clause-order : goal.returns-in_err-new-clause-order
-returns-in_err-new-clause-order c =
+pub returns-in_err-drawing-clause-order : goal.returns-in_err-drawing-clause-order
+returns-in_err-drawing-clause-order c =
     let m = c.args.map.now.tables in
     let es = c.args.edges.items in
-    let e = c.in_err-new.field-0.0 in
+    let e = c.in_err-drawing.field-0.0 in
     let border = c.in_ok-border.border in
-    passed_on (ComesInOrder m es) c.from_residual-in_err-new.result e c.from_residual-in_err-new.ensures.1
+    passed_on (ComesInOrder m es) c.from_residual-in_err-drawing.result e c.from_residual-in_err-drawing.ensures.1
     (drawing_in_order m es e
-    (subst (λ (ls : List PlacedLine). RefusesDrawing m ls e) (c.deref-2.ensures.value ∙ c.in_ok-border.ensures.edges) c.in_err-new.ensures.refused)
+    (subst (λ (ls : List PlacedLine). RefusesDrawing m ls e) c.in_ok-border.ensures.edges c.in_err-drawing.ensures.refused)
     (becomes m c.in_ok-round.round border.cut_edges.items border.edges.items border.doubled.items es c.in_ok-border.ensures.edges c.in_ok-border.ensures.doubled
     c.in_ok-border.ensures.whole c.in_ok-border.ensures.cut_edges c.in_ok-round.ensures.led c.in_ok-round.ensures.empty))
-
-pub returns-in_err-look_at-clause-order : goal.returns-in_err-look_at-clause-order
-returns-in_err-look_at-clause-order c =
-    let m = c.args.map.now.tables in
-    let es = c.args.edges.items in
-    let e = c.in_err-look_at.field-0.0 in
-    passed_on (ComesInOrder m es) c.from_residual-in_err-look_at.result e c.from_residual-in_err-look_at.ensures.1
-    (trial_in_order m es e c.in_err-look_at.ensures.refused)
-
-pub look_at-requires-clause-others : goal.look_at-requires-clause-others
-look_at-requires-clause-others c =
-    others_changing c.as_slice-all.result.now c.deref-3.result.now c.args.map.now.tables c.in_ok-new.new.tables
-    (c.deref-3.ensures.value ∙ c.in_ok-changing.ensures) c.in_ok-new.ensures.others

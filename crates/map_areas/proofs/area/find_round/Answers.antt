@@ -44,6 +44,6 @@ returns-in_err-find_empty-clause-reason c =
     let es = c.args.border.now.edges.items in
     let ds = c.args.border.now.doubled.items in
     let e = c.in_err-find_empty.field-0.0 in
-    let part = has_part m c.in_ok-round.round c.args.border.now.cut_edges.items es c.requires.edges c.in_ok-round.ensures.some c.in_ok-round.ensures.led in
+    let part = has_part m c.in_ok-round.round c.args.border.now.cut_edges.items es c.requires.edges c.requires.some c.in_ok-round.ensures.led in
     passed_on (IsAreaRefusal m es ds) c.from_residual-in_err-find_empty.result e c.from_residual-in_err-find_empty.ensures.1
     (inside_void m es ds e c.in_err-find_empty.ensures.reason part.0 part.1 (part.2 ∙ c.in_err-find_empty.ensures.void))

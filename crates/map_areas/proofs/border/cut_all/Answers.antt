@@ -6,7 +6,7 @@ use Rattle.std.proofs.lemmas.List.{map-append, take_all, take_more}
 use Rattle.std.proofs.lemmas.Option.{get_or_from_slice_get, slice_get-get_or}
 use Rattle.map_plane.specs.Places.{placed_lines}
 use Rattle.map_plane.specs.declared.places.PlacedLine.{PlacedLine}
-use Rattle.map_areas.specs.Cuts.{IsCutWhereMet, uncut}
+use Rattle.map_areas.specs.Cuts.{IsCutWhole, uncut}
 use Rattle.map_areas.specs.Refusals.{CrossesBetween}
 use Rattle.map_areas.specs.declared.border.CutEdge.{CutEdge}
 use Rattle.map_areas.proofs.Crossings.{edge_refused, whole_all}
@@ -20,9 +20,9 @@ more old new cut es i d lt is so edge =
 
 pub loop-edge-preserved : goal.loop-edge-preserved
 loop-edge-preserved c = record {
-  met =
-      subst (λ (cs : List CutEdge). All (IsCutWhereMet c.args.map.now.tables) cs) (sym c.in_ok-push-in-Ok.ensures.items)
-      (All-push (IsCutWhereMet c.args.map.now.tables) c.loop-edge.all.items c.in-Ok.cut c.loop-edge.invariant.met c.in-Ok.ensures.met);
+  cut =
+      subst (λ (cs : List CutEdge). All (IsCutWhole c.args.map.now.tables) cs) (sym c.in_ok-push-in-Ok.ensures.items)
+      (All-push (IsCutWhole c.args.map.now.tables) c.loop-edge.all.items c.in-Ok.cut c.loop-edge.invariant.cut c.in-Ok.ensures.cut);
   edges =
       more c.loop-edge.all.items _ c.in-Ok.cut c.args.edges.now c.loop-edge.edge-index _ c.loop-edge-test.true c.in_ok-push-in-Ok.ensures.items c.loop-edge.invariant.edges
       c.in-Ok.ensures.edge;
