@@ -1,1 +1,3 @@
-mod Rebuilding
+pub mod Rebuilding
+pub mod Given
+pub mod Holding

@@ -1,5 +1,5 @@
 -- From what is told of each level of a WAD that is built anew to what the request `rebuild` promises.
-use Rattle.std.proofs.Common.{◌≡◌, ◌∙◌, ◌+◌, ◌<◌, ◌≤◌, ℕ, Bool, List, [], ◌∷◌, ◌++◌, Option, Some, Result, Ok, Err, length, get_or, map, take, ◌⊎◌, inl, inr, refl, sym, ap, subst, append-nil}
+use Rattle.std.proofs.Common.{◌≡◌, ◌∙◌, ◌+◌, ◌<◌, ℕ, Bool, List, [], ◌∷◌, ◌++◌, Option, Result, Ok, Err, length, get_or, map, take, ◌⊎◌, inl, inr, refl, sym, ap, subst, append-nil}
 use Rattle.std.specs.Prelude.{All, MatchResult, flat_map}
 use Rattle.std.specs.Io.KnownBytes.{Appends, Keeps}
 use Rattle.std.proofs.KnownBytes.{Appends-trans}
@@ -11,15 +11,9 @@ use Rattle.wad_levels.specs.declared.entries.LevelEntries.{LevelEntries}
 use Rattle.lump_records.specs.Names.{name_text}
 use Rattle.lump_records.specs.declared.records.Name8.{Name8}
 use Rattle.cli_print.specs.ShownNames.{shown}
-use Rattle.cli_sources.proofs.Opened.{unread_of}
-use Rattle.cli_sources.specs.Unread.{OverWadTold}
-use Rattle.cli_rebuild.specs.Rebuilding.{IsMadeFrom, IsPutInto, IsRebuiltAt, IsRebuiltOf, IsToldOf, MakesNone, PutsNone, fate_text, kept_line, kept_fault_lines, kept_notes, kept_of, left_as_text, made_text, status_rebuilt}
+use Rattle.cli_rebuild.specs.Rebuilding.{IsRebuiltOf, IsToldOf, fate_text, kept_line, kept_fault_lines, kept_notes, kept_of, left_as_text, made_text, status_rebuilt}
 use Rattle.run_edit.specs.declared.error.EditorError.TheVariants.{WriterFailed}
-use Rattle.wad_file.specs.Lumps.{wad_of}
-use Rattle.wad_file.specs.Placed.{IsListWritten, Placed, placed_size}
-use Rattle.wad_rebuild.specs.Rebuilt.{IsFate, IsRebuilt, IsRebuiltAs, greatest_size, kept_in}
-use Rattle.wad_rebuild.specs.Whole.{IsAcceptedWith, IsListOf}
-use Rattle.wad_rebuild.proofs.WholeLemmas.{bytes_refused, written_of_list}
+use Rattle.wad_rebuild.specs.Rebuilt.{IsFate, IsRebuilt, IsRebuiltAs, kept_in}
 use Rattle.wad_rebuild.specs.declared.cause.Cause.{Cause}
 use Rattle.wad_rebuild.specs.declared.levels.Fate.{Fate}
 use Rattle.wad_rebuild.specs.declared.levels.Fate.TheVariants.{NotAsked, Made, Left}
@@ -68,30 +62,7 @@ kept_all wad all names (l ∷ ls) each =
     let rest = kept_all wad all names ls (All-tail (IsRebuilt wad all names) l ls each) in
     (λ i. flat_map (kept_line l.name) (here i) ++ rest i)
 
--- ---- The WAD
-
--- the lumps were written into a file behind what a new one had
-pub put_into : {F : Type 0} (contents : F → Option (List ℕ)) (wad : List ℕ) (levels : List RebuiltLevel) (list : List Placed) (size : ℕ) (new file : F)
-    → IsListOf wad levels list → size ≡ placed_size list → IsListWritten (Some wad) (take 4 wad) list (contents new) (contents file) → IsPutInto contents wad levels size file
-put_into contents wad levels list size new file l s w =
-    record {
-      bytes = wad_of (take 4 wad) w.lumps;
-      wad_is = written_of_list wad (take 4 wad) levels list (contents new) (contents file) refl l w;
-      fits = subst (λ (n : ℕ). n ≤ greatest_size wad) l.size_is l.fits;
-      size_is = s ∙ sym w.long;
-      made = (new, w.put);
-    }
-
--- so a WAD with accepted levels was made
-pub made_from : {F : Type 0} (contents : F → Option (List ℕ)) (wad : List ℕ) (names : List (List ℕ)) (levels : List RebuiltLevel) (size : ℕ) (file : F) → IsAcceptedWith wad names levels
-    → IsPutInto contents wad levels size file → IsMadeFrom contents wad names levels size file
-made_from contents wad names levels size file a p =
-    (p.bytes, record { accepted = a.accepted; levels_are = a.levels_are; bytes_are = p.wad_is; fits = p.fits }, p.size_is, p.made)
-
--- or none
-pub makes_none : (wad : List ℕ) (names : List (List ℕ)) (levels : List RebuiltLevel) (refusal : Refusal) → IsAcceptedWith wad names levels → PutsNone wad levels refusal → MakesNone wad names refusal
-makes_none wad names levels refusal a (inl (e, is, r)) = inl (e, is, bytes_refused wad names levels e a r)
-makes_none wad names levels refusal a (inr is) = inr is
+-- ---- The request
 
 -- what became of levels was told, and the faults that stay, or a writer failed
 abbrev pub IsTold : Result ℕ Refusal → List RebuiltLevel → ℕ → Option (List ℕ) → Option (List ℕ) → Option (List ℕ) → Option (List ℕ) → Type 0
@@ -112,9 +83,3 @@ rebuilt_told (Ok status) wad names levels bytes size u w d x is long (same, told
 )
 rebuilt_told (Err refusal) wad names levels bytes size u w d x is long (failed, inl told) = inr (failed, inl (levels, bytes, is, subst (λ (n : ℕ). IsToldOf levels n u w) long told))
 rebuilt_told (Err refusal) wad names levels bytes size u w d x is long (failed, inr kept) = inr (failed, inr kept)
-
--- the same of a file, which tells no bytes
-pub rebuilt_of_wad : (names : List (List ℕ)) (r s u w d x : Option (List ℕ)) (how : Result ℕ Refusal)
-    → OverWadTold r s how u w d x (λ wad. IsRebuiltOf wad names how u w d x) → IsRebuiltAt names how u w d x
-rebuilt_of_wad names r s u w d x how (inl (unread, kept)) = inl (unread_of r s u w how unread, kept)
-rebuilt_of_wad names r s u w d x how (inr (wad, all, done)) = inr (wad, done)

@@ -1,1 +1,3 @@
+pub mod Holding
 pub mod Rebuilding
+pub mod Given

@@ -1,5 +1,5 @@
 -- What `rebuild` tells and answers (docs/COMMANDS.md, "The program").
-use Rattle.std.specs.Prelude.{◌≡◌, ◌⊎◌, ℕ, ◌+◌, ◌/◌, ◌≤◌, List, [], ◌∷◌, ◌++◌, Option, Result, Ok, Err, codes, count_by, decimal, flat_map, length, map, take, ◌==◌, Bool, true, false}
+use Rattle.std.specs.Prelude.{◌≡◌, ◌⊎◌, ℕ, ◌+◌, ◌/◌, List, [], ◌∷◌, ◌++◌, Option, Result, Ok, Err, codes, count_by, decimal, flat_map, length, map, ◌==◌, Bool, true, false}
 use Rattle.std.specs.Io.KnownBytes.{Appends, Keeps}
 use Rattle.run_edit.specs.declared.error.EditorError.TheVariants.{InputTooLong, WriterFailed}
 use Rattle.run_edit.specs.declared.error.InspectError.TheVariants as inspecting
@@ -9,10 +9,8 @@ use Rattle.lump_records.specs.declared.records.Name8.{Name8}
 use Rattle.cli_sources.specs.Unread.{EndsUnread}
 use Rattle.cli_files.specs.NewFile.{IsMadeOf}
 use Rattle.cli_print.specs.ShownNames.{shown}
-use Rattle.wad_file.specs.Lumps.{IsWadOf, wad_size}
-use Rattle.wad_rebuild.specs.Rebuilt.{IsRebuiltAs, RefusesRebuild, greatest_size, kept_in, rebuilt_lumps}
+use Rattle.wad_rebuild.specs.Rebuilt.{IsRebuiltAs, RefusesRebuild, kept_in}
 use Rattle.wad_rebuild.specs.Texts.{cause_text, kept_text}
-use Rattle.wad_rebuild.specs.Whole.{RefusesBytes}
 use Rattle.wad_rebuild.specs.declared.cause.Cause.{Cause}
 use Rattle.wad_rebuild.specs.declared.error.RebuildError.{RebuildError}
 use Rattle.wad_rebuild.specs.declared.error.RebuildError.TheVariants as rebuilding
@@ -120,22 +118,6 @@ MakesNone wad names refusal =
     ⊎ (refusal ≡ of.Lines WriterFailed)
 
 -- the file was made of the bytes of the WAD with its levels built anew, and has so many
-pub record IsPutInto {F : Type 0} (contents : F → Option (List ℕ)) (wad : List ℕ)
-    (levels : List RebuiltLevel) (size : ℕ) (file : F) : Type 0 where
-  pub bytes : List ℕ
-  pub wad_is : IsWadOf (take 4 wad) (rebuilt_lumps wad levels) bytes
-  pub fits : wad_size (rebuilt_lumps wad levels) ≤ greatest_size wad
-  pub size_is : size ≡ length bytes
-  pub made : IsMadeOf contents file bytes
-
--- why it wasn't: that WAD would have too many bytes, or no memory is left; or the file can't be made
-abbrev pub PutsNone : List ℕ → List RebuiltLevel → Refusal → Type 0
-PutsNone wad levels refusal =
-    ((e : RebuildError) × (refusal ≡ refusal_for e)
-    × RefusesBytes (greatest_size wad) (rebuilt_lumps wad levels) e)
-    ⊎ (refusal ≡ of.Lines WriterFailed)
-
--- the same of levels that became what they had to become
 abbrev pub IsMadeFrom : {F : Type 0} → (F → Option (List ℕ)) → List ℕ → List (List ℕ)
     → List RebuiltLevel → ℕ → F → Type 0
 IsMadeFrom contents wad names levels size file =

@@ -138,13 +138,12 @@ open_fits old new l x v1 v2 right left le ends vertices = record {
 }
 
 -- a vertex at another place is another one
-pub not_at : (vs : List Vertex) (k v : ℕ) (p q : Vertex) → q ≡ nth_vertex vs k → is_at q p ≡ false → slice_get vs v ≡ Some p → k ≢ v
-not_at vs k v p q place at is same =
-    false≢true (sym at ∙ is_at-same q p (place ∙ ap (nth_vertex vs) same ∙ get_or_from_slice_get vs v p _ is))
+not_at : (vs : List Vertex) (k v : ℕ) (p q : Vertex) → q ≡ nth_vertex vs k → q ≢ p → slice_get vs v ≡ Some p → k ≢ v
+not_at vs k v p q place other is same = other (place ∙ ap (nth_vertex vs) same ∙ get_or_from_slice_get vs v p _ is)
 
 -- the parts of a line that is cut at a vertex
 pub short_fits : (t : Tables) (l : Line) (v : ℕ) (p q : Vertex) → HasEnds t.vertices l → HasSides t.sides l → slice_get t.vertices v ≡ Some p
-    → q ≡ nth_vertex t.vertices l.v1 → is_at q p ≡ false → IsFitting t (record l { v2 = v })
+    → q ≡ nth_vertex t.vertices l.v1 → q ≢ p → IsFitting t (record l { v2 = v })
 short_fits t l v p q ends has is place at = record {
   v1 = ends.v1;
   v2 = slice_get_within t.vertices v p is;
@@ -153,7 +152,7 @@ short_fits t l v p q ends has is place at = record {
 }
 
 pub rest_fits : (t u : Tables) (l : Line) (v : ℕ) (p q : Vertex) → HasEnds t.vertices l → HasSides t.sides l → slice_get t.vertices v ≡ Some p
-    → q ≡ nth_vertex t.vertices l.v2 → is_at q p ≡ false → u.vertices ≡ t.vertices → u.sides ≡ t.sides → IsFitting u (record l { v1 = v })
+    → q ≡ nth_vertex t.vertices l.v2 → q ≢ p → u.vertices ≡ t.vertices → u.sides ≡ t.sides → IsFitting u (record l { v1 = v })
 rest_fits t u l v p q ends has is place at vertices sides = record {
   v1 = subst (λ (vs : List Vertex). v < length vs) (sym vertices) (slice_get_within t.vertices v p is);
   v2 = subst (λ (vs : List Vertex). l.v2 < length vs) (sym vertices) ends.v2;

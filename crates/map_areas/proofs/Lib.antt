@@ -2,6 +2,8 @@ pub mod Leading
 pub mod Copies
 pub mod Crossed
 pub mod Keeping
+pub mod Items
+pub mod Parts
 pub mod Steps
 pub mod Walled
 pub mod Sofar

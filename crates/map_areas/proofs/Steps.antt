@@ -1,8 +1,8 @@
 -- What each command that draws an area leaves of the map's sides and lines.
-use Rattle.std.proofs.Common.{◌≡◌, ◌⊎◌, ℕ, zero, suc, ◌+◌, ◌<◌, ◌≤◌, Bool, false, not, true, List, [], ◌∷◌, ◌++◌, length, Option, Some, None, refl, sym, ap, ◌∙◌, ⊎_elim, subst, arith, length-append, inl, inr}
+use Rattle.std.proofs.Common.{◌≡◌, ◌⊎◌, ℕ, zero, suc, ◌+◌, ◌<◌, ◌≤◌, Bool, false, not, true, List, [], ◌∷◌, ◌++◌, length, get_or, Option, Some, None, refl, sym, ap, ◌∙◌, ⊎_elim, subst, arith, length-append, inl, inr}
 use Rattle.std.specs.List.{slice_get, slice_set}
 use Rattle.std.proofs.lemmas.Bool.Decides.{eqb_tells}
-use Rattle.std.proofs.lemmas.Option.{get_or_from_slice_get, slice_get_cases, slice_get_within}
+use Rattle.std.proofs.lemmas.Option.{get_or_from_slice_get, slice_get_within}
 use Rattle.lump_records.specs.Sides.{no_side}
 use Rattle.lump_records.specs.declared.records.Line.{Line}
 use Rattle.lump_records.specs.declared.records.Sector.{Sector}
@@ -13,55 +13,15 @@ use Rattle.map_commands.specs.Splits.{cut_off, cut_short, line_or_some, with_spl
 use Rattle.map_commands.specs.declared.command.LineSplit.{LineSplit}
 use Rattle.map_tables.specs.Edits.{with_line, with_line_at, with_sector, with_side, with_side_at, with_vertex}
 use Rattle.map_tables.specs.Tables.{Tables}
-use Rattle.map_tables.specs.WellFormed.{HasEnds, HasSides, WellFormed}
+use Rattle.map_areas.specs.Ways.{is_between}
+use Rattle.map_tables.specs.WellFormed.{nth_vertex, HasEnds, HasSides, WellFormed}
 use Rattle.map_areas.specs.Apart.{KeepsAlone, KeepsRecord, is_alone}
-use Rattle.map_areas.specs.Drawings.{BecameLine, IsBecoming, KeepsLine, IsSole, IsTaken, KeepsLines, KeepsLinesBut, side_on}
+use Rattle.map_areas.proofs.Items.{at_end, at_set, beside_set, in_longer, past_end, within_longer}
+use Rattle.map_areas.proofs.Parts.{cut_short_part, line_of_part, part_of_line, parts_cut, parts_kept, parts_none, parts_set}
+use Rattle.map_areas.specs.Drawings.{BecameLine, BecamePart, IsBecoming, KeepsLine, IsSole, IsTaken, KeepsLines, KeepsLinesBut, side_on}
 use Rattle.map_areas.specs.Stays.{BecomesSide, opened_flags}
 use Rattle.map_areas.specs.declared.border.Border.{Border}
 use Rattle.map_plane.specs.Places.{placed}
-
--- ---- lists
-
--- an item stays where something was added at the end
-pub in_longer : {X : Type 0} (xs ys : List X) (k : ℕ) (x : X) → slice_get xs k ≡ Some x → slice_get (xs ++ ys) k ≡ Some x
-in_longer [] ys k x is = cc
-in_longer (y ∷ xs) ys zero x is = is
-in_longer (y ∷ xs) ys (suc k) x is = in_longer xs ys k x is
-
--- an item stays where another one was changed
-pub beside_set : {X : Type 0} (xs : List X) (n : ℕ) (y : X) (k : ℕ) → (k ≡ n → ⊥) → slice_get (slice_set xs n y) k ≡ slice_get xs k
-beside_set [] n y k apart = refl
-beside_set (z ∷ xs) zero y zero apart = absurd (apart refl)
-beside_set (z ∷ xs) zero y (suc k) apart = refl
-beside_set (z ∷ xs) (suc n) y zero apart = refl
-beside_set (z ∷ xs) (suc n) y (suc k) apart = beside_set xs n y k (λ e. apart (ap suc e))
-
--- an item that was changed
-pub at_set : {X : Type 0} (xs : List X) (n : ℕ) (y : X) → n < length xs → slice_get (slice_set xs n y) n ≡ Some y
-at_set [] n y lt = absurd (omega arith)
-at_set (z ∷ xs) zero y lt = refl
-at_set (z ∷ xs) (suc n) y lt = at_set xs n y (omega arith)
-
--- what was added at the end
-pub at_end : {X : Type 0} (xs : List X) (n : ℕ) (x : X) → n ≡ length xs → slice_get (xs ++ x ∷ []) n ≡ Some x
-at_end [] zero x e = refl
-at_end [] (suc n) x e = absurd (omega arith)
-at_end (y ∷ xs) zero x e = absurd (omega arith)
-at_end (y ∷ xs) (suc n) x e = at_end xs n x (omega arith)
-
--- an item within a list
-pub within_longer : {X : Type 0} (xs ys : List X) (k : ℕ) → k < length xs → slice_get (xs ++ ys) k ≡ slice_get xs k
-within_longer xs ys k lt =
-    ⊎_elim
-    (λ there. in_longer xs ys k there.0 there.2 ∙ sym there.2)
-    (λ past. absurd (omega (arith, past.0)))
-    (slice_get_cases xs k).1
-
--- past the end there is none
-pub past_end : {X : Type 0} (xs : List X) (k : ℕ) → length xs ≤ k → slice_get xs k ≡ None
-past_end [] k le = refl
-past_end (x ∷ xs) zero le = absurd (omega arith)
-past_end (x ∷ xs) (suc k) le = past_end xs k (omega arith)
 
 -- ---- lines that keep their records
 
@@ -70,6 +30,20 @@ line_there t n l fine is =
     let lt = slice_get_within t.lines n l is in
     let same = get_or_from_slice_get t.lines n l l is in
     (subst (HasEnds t.vertices) same (fine.ends n l lt), subst (HasSides t.sides) same (fine.line_sides n l lt))
+
+get_longer : {X : Type 0} (xs ys : List X) (k : ℕ) (d : X) → k < length xs → get_or (xs ++ ys) k d ≡ get_or xs k d
+get_longer [] ys k d lt = absurd (omega arith)
+get_longer (x ∷ xs) ys zero d lt = refl
+get_longer (x ∷ xs) ys (suc k) d lt = get_longer xs ys k d (omega arith)
+
+pub kept_vertex : (t : Tables) (v : Vertex) → WellFormed t → KeepsLines t (with_vertex t v)
+kept_vertex t v fine n l is =
+    let ends = (line_there t n l fine is).0 in
+    record {
+      kept = record { line = is; right = refl; left = refl };
+      from = get_longer t.vertices (v ∷ []) l.v1 _ ends.v1;
+      to = get_longer t.vertices (v ∷ []) l.v2 _ ends.v2;
+    }
 
 left_longer : (ss : List Side) (s : Side) (l : Line) → HasSides ss l → length ss < no_side → slice_get (ss ++ s ∷ []) l.left ≡ slice_get ss l.left
 left_longer ss s l has room =
@@ -168,20 +142,42 @@ pub becoming_none : (m : Tables) (b : Border) (round : Option ℕ) → IsBecomin
 becoming_none m b round = record {
   sides = λ n s is. (s, is, inl refl);
   lines = λ n l is. (l, is, line_as_it_was l);
+  parts = parts_none m;
   alone = λ n l is alone. record { line = is; right = refl; left = refl };
 }
 
-pub becoming_vertex : (m : Tables) (b : Border) (round : Option ℕ) (t : Tables) (v : Vertex) → IsBecoming m b round t → IsBecoming m b round (with_vertex t v)
-becoming_vertex m b round t v h = record { sides = h.sides; lines = h.lines; alone = λ n l is alone. record { line = (h.alone n l is alone).line; right = (h.alone n l is alone).right; left = (h.alone n l is alone).left } }
+alone_same : (m : Tables) (b : Border) (t u : Tables) → u.sides ≡ t.sides → u.lines ≡ t.lines → ((n : ℕ) → KeepsAlone b.edges.items b.doubled.items m t n)
+    → (n : ℕ) → KeepsAlone b.edges.items b.doubled.items m u n
+alone_same m b t u sides lines h n l is alone =
+    let r = h n l is alone in
+    record {
+      line = ap (λ ls. slice_get ls n) lines ∙ r.line;
+      right = ap (λ ss. slice_get ss l.right) sides ∙ r.right;
+      left = ap (λ ss. slice_get ss l.left) sides ∙ r.left;
+    }
+
+pub becoming_vertex : (m : Tables) (b : Border) (round : Option ℕ) (t : Tables) (v : Vertex) → WellFormed t → IsBecoming m b round t → IsBecoming m b round (with_vertex t v)
+becoming_vertex m b round t v fine h = record {
+  sides = h.sides;
+  lines = h.lines;
+  parts = parts_kept m t (with_vertex t v) (kept_vertex t v fine) h.parts;
+  alone = alone_same m b t (with_vertex t v) refl refl h.alone;
+}
 
 pub becoming_sector : (m : Tables) (b : Border) (round : Option ℕ) (t : Tables) (s : Sector) → IsBecoming m b round t → IsBecoming m b round (with_sector t s)
-becoming_sector m b round t s h = record { sides = h.sides; lines = h.lines; alone = λ n l is alone. record { line = (h.alone n l is alone).line; right = (h.alone n l is alone).right; left = (h.alone n l is alone).left } }
+becoming_sector m b round t s h = record {
+  sides = h.sides;
+  lines = h.lines;
+  parts = h.parts;
+  alone = alone_same m b t (with_sector t s) refl refl h.alone;
+}
 
 pub becoming_side : (m : Tables) (b : Border) (round : Option ℕ) (t : Tables) (s : Side) → WellFormed t → length t.sides < no_side → IsBecoming m b round t
     → IsBecoming m b round (with_side t s)
 becoming_side m b round t s fine room h = record {
   sides = λ n x is. let y = h.sides n x is in (y.0, in_longer t.sides (s ∷ []) n y.0 y.1, y.2);
   lines = h.lines;
+  parts = parts_kept m t (with_side t s) (kept_side t s fine room) h.parts;
   alone = alone_still m b t (with_side t s) h.alone (kept_side t s fine room);
 }
 
@@ -189,6 +185,7 @@ pub becoming_line : (m : Tables) (b : Border) (round : Option ℕ) (t : Tables) 
 becoming_line m b round t x h = record {
   sides = h.sides;
   lines = λ n l is. let y = h.lines n l is in (y.0, in_longer t.lines (x ∷ []) n y.0 y.1, y.2);
+  parts = parts_kept m t (with_line t x) (kept_line t x) h.parts;
   alone = alone_still m b t (with_line t x) h.alone (kept_line t x);
 }
 
@@ -205,12 +202,44 @@ became R xs k y x n z lt more is r =
     (eqb_tells n k)
 
 pub becoming_set_line : (m : Tables) (b : Border) (round : Option ℕ) (t : Tables) (k : ℕ) (x : Line) → k < length t.lines → IsTaken m b k
-    → ((was is : Line) → slice_get t.lines k ≡ Some is → BecameLine was is → BecameLine was x) → IsBecoming m b round t → IsBecoming m b round (with_line_at t k x)
-becoming_set_line m b round t k x lt taken more h = record {
+    → ((was is : Line) → slice_get t.lines k ≡ Some is → BecamePart was is → BecamePart was x)
+    → ((is : Line) → slice_get t.lines k ≡ Some is → (x.v1 ≡ is.v1) × (x.v2 ≡ is.v2)) → IsBecoming m b round t → IsBecoming m b round (with_line_at t k x)
+becoming_set_line m b round t k x lt taken part ends h = record {
   sides = h.sides;
-  lines = λ n l is. let y = h.lines n l is in became BecameLine t.lines k x l n y.0 lt more y.1 y.2;
+  lines =
+      λ n l is.
+      let y = h.lines n l is in
+      became BecameLine t.lines k x l n y.0 lt (λ was now at r. line_of_part was now x r (ends now at).0 (part was now at (part_of_line was now r))) y.1 y.2;
+  parts = parts_set m t k x lt part ends h.parts;
   alone = alone_but m b k t (with_line_at t k x) taken h.alone (kept_set_line t k x);
 }
+
+-- a line that is cut at a vertex between its ends
+pub becoming_cut : (m : Tables) (b : Border) (round : Option ℕ) (t : Tables) (k : ℕ) (l : Line) (v : ℕ) → slice_get t.lines k ≡ Some l → IsTaken m b k
+    → is_between (placed t (k, l)) (nth_vertex t.vertices v) ≡ true → IsBecoming m b round t
+    → IsBecoming m b round (with_line (with_line_at t k (record l { v2 = v })) (record l { v1 = v }))
+becoming_cut m b round t k l v is taken between h =
+    let short : Line = record l { v2 = v } in
+    let rest : Line = record l { v1 = v } in
+    let one = with_line_at t k short in
+    let lt = slice_get_within t.lines k l is in
+    record {
+      sides = h.sides;
+      lines =
+          λ n x at.
+          let y = h.lines n x at in
+          let z = became BecameLine t.lines k short x n y.0 lt
+          (λ was now here r. line_of_part was now short r (ap (λ (w : Line). w.v1) (some_same (sym is ∙ here))) (shortened was now (some_same (sym here ∙ is)) r)) y.1 y.2 in
+          (z.0, in_longer (slice_set t.lines k short) (rest ∷ []) n z.0 z.1, z.2);
+      parts = parts_cut m t k l v lt is between h.parts;
+      alone = alone_still m b one (with_line one rest) (alone_but m b k t one taken h.alone (kept_set_line t k short)) (kept_line one rest);
+    }
+  where
+    some_same : {a b : Line} → Some a ≡ Some b → a ≡ b
+    some_same e = cc
+
+    shortened : (was now : Line) → now ≡ l → BecameLine was now → BecamePart was (record l { v2 = v })
+    shortened was now same r = cut_short_part was l v (subst (BecamePart was) same (part_of_line was now r))
 
 pub becoming_set_side : (m : Tables) (b : Border) (round : Option ℕ) (t : Tables) (line k : ℕ) (s : Side) → k < length t.sides → IsTaken m b line → IsSole t.lines line k
     → ((was is : Side) → slice_get t.sides k ≡ Some is → BecomesSide round (length m.sectors) was is → BecomesSide round (length m.sectors) was s)
@@ -218,45 +247,35 @@ pub becoming_set_side : (m : Tables) (b : Border) (round : Option ℕ) (t : Tabl
 becoming_set_side m b round t line k s lt taken sole more h = record {
   sides = λ n x is. let y = h.sides n x is in became (BecomesSide round (length m.sectors)) t.sides k s x n y.0 lt more y.1 y.2;
   lines = h.lines;
+  parts = h.parts;
   alone = alone_but m b line t (with_side_at t k s) taken h.alone (kept_set_side t line k s sole);
 }
 
--- a cut line
-pub becoming_split : (m : Tables) (b : Border) (round : Option ℕ) (t : Tables) (s : LineSplit) (l : Line) → slice_get t.lines s.line ≡ Some l → IsTaken m b s.line
-    → IsBecoming m b round t → IsBecoming m b round (with_split t s)
-becoming_split m b round t s l is taken h =
+-- a line that is cut where no vertex was
+pub becoming_split : (m : Tables) (b : Border) (round : Option ℕ) (t : Tables) (s : LineSplit) (l : Line) → WellFormed t → slice_get t.lines s.line ≡ Some l → IsTaken m b s.line
+    → is_between (placed t (s.line, l)) s.at ≡ true → IsBecoming m b round t → IsBecoming m b round (with_split t s)
+becoming_split m b round t s l fine is taken between h =
     let v = length t.vertices in
-    let some = line_or_some t.lines s.line in
-    let same : some ≡ l = get_or_from_slice_get t.lines s.line l (wall 0 0 0) is in
     let one = with_vertex t s.at in
-    becoming_line m b round (with_line_at one s.line (cut_short some v)) (cut_off some v)
-    (becoming_set_line m b round one s.line (cut_short some v) (slice_get_within t.lines s.line l is) taken
-    (λ was x at r.
-    let here : x ≡ some = some_same (sym at ∙ is) ∙ sym same in
-    cut_became was some v (subst (BecameLine was) here r))
-    (becoming_vertex m b round t s.at h))
-  where
-    some_same : {a b : Line} → Some a ≡ Some b → a ≡ b
-    some_same e = cc
+    let same : line_or_some t.lines s.line ≡ l = get_or_from_slice_get t.lines s.line l (wall 0 0 0) is in
+    let new : nth_vertex one.vertices v ≡ s.at = get_or_from_slice_get one.vertices v s.at _ (at_end t.vertices v s.at refl) in
+    let kept = kept_vertex t s.at fine s.line l is in
+    let there : is_between (placed one (s.line, l)) (nth_vertex one.vertices v) ≡ true =
+    (λ i. is_between (record (placed one (s.line, l)) { from = kept.from i; to = kept.to i }) (new i)) ∙ between in
+    subst (λ (x : Line). IsBecoming m b round (with_line (with_line_at one s.line (cut_short x v)) (cut_off x v))) (sym same)
+    (becoming_cut m b round one s.line l v is taken there (becoming_vertex m b round t s.at fine h))
 
-    cut_became : (was x : Line) (v : ℕ) → BecameLine was x → BecameLine was (cut_short x v)
-    cut_became was x v r = record {
-      line = record { start = r.line.start; special = r.line.special; tag = r.line.tag; flags = r.line.flags };
-      flags = r.flags;
-    }
-
--- ---- what becomes of a line
+-- ---- what becomes of a part of a line
 
 -- one of its sides is another one
 pub became_sided : (was l x : Line) (r : Bool) (n : ℕ) → x ≡ record l { right = x.right; left = x.left } → side_on r x ≡ n → n ≤ 32766
-    → side_on (not r) x ≡ side_on (not r) l → BecameLine was l → BecameLine was x
+    → side_on (not r) x ≡ side_on (not r) l → BecamePart was l → BecamePart was x
 became_sided was l x r n others here le other h = record {
-  line =
+  part =
       record {
-        start = ap (λ (y : Line). y.v1) others ∙ h.line.start;
-        special = ap (λ (y : Line). y.special) others ∙ h.line.special;
-        tag = ap (λ (y : Line). y.tag) others ∙ h.line.tag;
-        flags = subst (λ f. (f ≡ was.flags) ⊎ (f ≡ opened_flags was.flags)) (sym (ap (λ (y : Line). y.flags) others)) h.line.flags;
+        special = ap (λ (y : Line). y.special) others ∙ h.part.special;
+        tag = ap (λ (y : Line). y.tag) others ∙ h.part.tag;
+        flags = subst (λ f. (f ≡ was.flags) ⊎ (f ≡ opened_flags was.flags)) (sym (ap (λ (y : Line). y.flags) others)) h.part.flags;
       };
   flags = λ none. ap (λ (y : Line). y.flags) others ∙ h.flags (left r here other none);
 }
@@ -266,14 +285,13 @@ became_sided was l x r n others here le other h = record {
     left false e f none = absurd (omega (arith, e, le, none))
 
 -- it got a left side
-pub became_open : (was l x : Line) → x.v1 ≡ l.v1 → x.special ≡ l.special → x.tag ≡ l.tag → x.flags ≡ opened_flags l.flags → x.left ≤ 32766 → l.left ≡ no_side
-    → BecameLine was l → BecameLine was x
-became_open was l x start special tag flags le none h = record {
-  line =
+pub became_open : (was l x : Line) → x.special ≡ l.special → x.tag ≡ l.tag → x.flags ≡ opened_flags l.flags → x.left ≤ 32766 → l.left ≡ no_side
+    → BecamePart was l → BecamePart was x
+became_open was l x special tag flags le none h = record {
+  part =
       record {
-        start = start ∙ h.line.start;
-        special = special ∙ h.line.special;
-        tag = tag ∙ h.line.tag;
+        special = special ∙ h.part.special;
+        tag = tag ∙ h.part.tag;
         flags = inr (flags ∙ ap opened_flags (h.flags none));
       };
   flags = λ e. absurd (omega (arith, e, le));

@@ -7,18 +7,19 @@ use Rattle.map_areas.proofs.Leading.{LeadTo-drawn}
 use Rattle.map_areas.specs.Apart.{KeepsAlone, doubled}
 use Rattle.map_areas.specs.Bordered.{IsBordered}
 use Rattle.map_areas.specs.Drawn.{LeadTo, drawn}
-use Rattle.map_areas.specs.Stays.{BecomesLine, BecomesSide, EachBecomes, KeepsItems, KeepsRest}
+use Rattle.map_areas.specs.Stays.{AreInParts, BecomesLine, BecomesSide, EachBecomes, KeepsItems, KeepsRest}
 
 -- what stays in the map that commands lead to stays in the one that they leave
 pub stays_drawn : (m new : Tables) (cs : List Command) (es fs ds : List PlacedLine) (round : Option ℕ) (s : ℕ) → LeadTo m cs new → fs ≡ es → ds ≡ doubled fs
     → s ≡ length m.sectors → KeepsItems m new → EachBecomes (BecomesSide round s) m.sides new.sides → EachBecomes BecomesLine m.lines new.lines
-    → ((n : ℕ) → KeepsAlone fs ds m new n) → KeepsRest es round m (drawn m cs)
-stays_drawn m new cs es fs ds round s h edges twice number keeps sides lines alone =
+    → AreInParts m new → ((n : ℕ) → KeepsAlone fs ds m new n) → KeepsRest es round m (drawn m cs)
+stays_drawn m new cs es fs ds round s h edges twice number keeps sides lines parts alone =
     subst (λ (t : Tables). KeepsRest es round m t) (LeadTo-drawn m cs new h)
     (record {
       tables = keeps;
       sides = subst (λ (k : ℕ). EachBecomes (BecomesSide round k) m.sides new.sides) number sides;
       lines = lines;
+      parts = parts;
       alone =
           subst (λ (gs : List PlacedLine). (n : ℕ) → KeepsAlone gs (doubled gs) m new n) edges
           (subst (λ (gs : List PlacedLine). (n : ℕ) → KeepsAlone fs gs m new n) twice alone);

@@ -16,7 +16,7 @@ use Rattle.map_commands.specs.declared.command.Command.{Command}
 use Rattle.map_areas.specs.Apart.{KeepsAlone, KeepsRecord, is_alone}
 use Rattle.map_areas.specs.Bordered.{faces_sector, is_walled, leads}
 use Rattle.map_areas.specs.Drawn.{DrawsOn, IsOfRoom, LeadTo}
-use Rattle.map_areas.specs.Stays.{BecomesLine, BecomesSide, EachBecomes}
+use Rattle.map_areas.specs.Stays.{BecomesLine, BecomesSide, EachBecomes, HasFieldsOf}
 use Rattle.map_areas.specs.Ways.{is_left_of_way, sector_by_side}
 use Rattle.map_areas.specs.declared.border.Border.{Border}
 use Rattle.map_areas.specs.declared.border.CutEdge.{CutEdge}
@@ -45,10 +45,23 @@ pub record BecameLine (old new : Line) : Type 0 where
   pub line : BecomesLine old new
   pub flags : new.left ≡ no_side → new.flags ≡ old.flags
 
+-- the same of a part of a line
+pub record BecamePart (old new : Line) : Type 0 where
+  pub part : HasFieldsOf old new
+  pub flags : new.left ≡ no_side → new.flags ≡ old.flags
+
+-- each line is covered by its parts so far
+abbrev pub AreParted : Tables → Tables → Type 0
+AreParted old new = (n : ℕ) (l : Line) → slice_get old.lines n ≡ Some l
+    → (p : Vertex) → is_on (placed old (n, l)) p ≡ true
+    → (k : ℕ) × (x : Line) × (slice_get new.lines k ≡ Some x) × BecamePart l x
+    × (is_on (placed new (k, x)) p ≡ true)
+
 -- what became of a map's sides and lines so far is what an area makes of them, and the outline's lines alone changed
 pub record IsBecoming (m : Tables) (b : Border) (round : Option ℕ) (new : Tables) : Type 0 where
   pub sides : EachBecomes (BecomesSide round (length m.sectors)) m.sides new.sides
   pub lines : EachBecomes BecameLine m.lines new.lines
+  pub parts : AreParted m new
   pub alone : (n : ℕ) → KeepsAlone b.edges.items b.doubled.items m new n
 
 -- the copy is the map that the commands lead to, which draw on the edges

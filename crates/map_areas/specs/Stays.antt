@@ -1,9 +1,12 @@
 -- What stays of a map when a shape is drawn into it.
-use Rattle.std.specs.Prelude.{◌≡◌, ◌⊎◌, ℕ, List, [], ◌∷◌, ◌++◌, Option, Some, None, length, slice_get, bit_and, bit_or}
+use Rattle.std.specs.Prelude.{◌≡◌, ◌⊎◌, ℕ, true, List, [], ◌∷◌, ◌++◌, Option, Some, None, length, slice_get, bit_and, bit_or}
 use Rattle.lump_records.specs.Names.{name_of}
 use Rattle.lump_records.specs.declared.records.Line.{Line}
 use Rattle.lump_records.specs.declared.records.Name8.{Name8}
 use Rattle.lump_records.specs.declared.records.Side.{Side}
+use Rattle.lump_records.specs.declared.records.Vertex.{Vertex}
+use Rattle.map_plane.specs.Meeting.{is_on}
+use Rattle.map_plane.specs.Places.{placed}
 use Rattle.map_plane.specs.declared.places.PlacedLine.{PlacedLine}
 use Rattle.map_tables.specs.Tables.{Tables}
 use Rattle.map_tables.specs.declared.edit.Edit.{Edit}
@@ -95,11 +98,25 @@ pub record BecomesLine (old new : Line) : Type 0 where
   pub tag : new.tag ≡ old.tag
   pub flags : (new.flags ≡ old.flags) ⊎ (new.flags ≡ opened_flags old.flags)
 
+-- a line has the fields of another one: its special, its tag, and its flags, unless it became two-sided
+pub record HasFieldsOf (old new : Line) : Type 0 where
+  pub special : new.special ≡ old.special
+  pub tag : new.tag ≡ old.tag
+  pub flags : (new.flags ≡ old.flags) ⊎ (new.flags ≡ opened_flags old.flags)
+
+-- each line is covered by its parts: on each place that it lay on lies a line with its fields
+abbrev pub AreInParts : Tables → Tables → Type 0
+AreInParts old new = (n : ℕ) (l : Line) → slice_get old.lines n ≡ Some l
+    → (p : Vertex) → is_on (placed old (n, l)) p ≡ true
+    → (k : ℕ) × (x : Line) × (slice_get new.lines k ≡ Some x) × HasFieldsOf l x
+    × (is_on (placed new (k, x)) p ≡ true)
+
 -- what stays when an area is drawn: vertices, sectors and things, each side but for what becomes of those on the border
--- or inside, each line but for where it ends, what becomes of its flags, and its sides, and each line that the outline
--- leaves alone altogether
+-- or inside, each line, whole or in parts, but for what becomes of its flags, and its sides, and each line that the
+-- outline leaves alone altogether
 pub record KeepsRest (es : List PlacedLine) (round : Option ℕ) (old new : Tables) : Type 0 where
   pub tables : KeepsItems old new
   pub sides : EachBecomes (BecomesSide round (length old.sectors)) old.sides new.sides
   pub lines : EachBecomes BecomesLine old.lines new.lines
+  pub parts : AreInParts old new
   pub alone : KeepsEachAlone es old new

@@ -8,7 +8,7 @@ ghost use Rattle.map_areas.specs.Drawings.{IsCutOnBorder, IsUnderway, IsUnfaced,
 ghost use Rattle.map_areas.specs.Drawn.{RefusesDrawing};
 ghost use Rattle.map_areas.specs.Ways.{is_left_of_way, sector_by_side, way};
 ghost use Rattle.map_plane.specs.Meeting.{is_at};
-ghost use Rattle.map_plane.specs.Places.{placed, placed_lines};
+ghost use Rattle.map_plane.specs.Places.{placed_lines};
 
 use crate::alone::is_left_alone;
 use crate::border::{Border, CutEdge};
@@ -17,7 +17,7 @@ use crate::drawing::Drawing;
 use crate::error::AreaError;
 use crate::sharing::{LineSide, Paint, side_on};
 use crate::walls::{open_side, solid_side, wall_between};
-use crate::ways::{Ground, is_left_of_way, left_of_way, sector_by_side, way};
+use crate::ways::{Ground, is_left_of_way, left_of_way, placed, sector_by_side, way};
 use lump_records::{Line, NO_SIDE};
 use map_plane::{PlacedLine, is_at};
 use map_tables::Map;
@@ -37,19 +37,6 @@ pub(crate) fn is_free(map: &Map, sector: u16, line: &Line) -> bool
     ensures { IsTrue result → IsUnfaced map.now.tables sector line.now }
 {
     !faces_sector(map, line.right, sector) && !faces_sector(map, line.left, sector)
-}
-
-// A line with its number and the places of its ends.
-fn placed(map: &Map, number: u32, line: &Line) -> PlacedLine
-    ensures { result ≡ placed map.now.tables (number, line.now) }
-{
-    let (from, to) = map.ends_of(line);
-    PlacedLine {
-        number,
-        from,
-        to,
-        is_wall: !line.has_left(),
-    }
 }
 
 // Whether the line leads the whole way: there if it runs so, or else back.

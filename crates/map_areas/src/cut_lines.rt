@@ -1,9 +1,12 @@
 //! Cutting the lines that a border crosses.
-ghost use Rattle.std.specs.Prelude.{◌≡◌, ◌≤◌, All, IfErr, IfOk, OnOk, Some, false, slice_get};
+ghost use Rattle.std.specs.Prelude.{◌≡◌, ◌<◌, ◌≤◌, All, IfErr, IfOk, OnOk, Some, false, length, slice_get, true};
 ghost use Rattle.map_areas.specs.Drawings.{IsUnderway, IsOnBorder, IsTaken};
 ghost use Rattle.map_areas.specs.Drawn.{RefusesDrawing};
 ghost use Rattle.map_tables.specs.Faults.{is_taken};
-ghost use Rattle.map_plane.specs.Places.{placed_lines};
+ghost use Rattle.map_areas.specs.Ways.{is_between};
+ghost use Rattle.map_plane.specs.Places.{placed, placed_lines};
+ghost use Rattle.map_tables.specs.Ranges.{IsLine};
+ghost use Rattle.map_tables.specs.WellFormed.{nth_vertex};
 
 use crate::alone::is_left_alone;
 use crate::border::Border;
@@ -11,11 +14,11 @@ use crate::cuts::cuts_of;
 use crate::drawing::{Drawing, find_vertex};
 use crate::error::AreaError;
 use crate::splitting::try_split;
-use crate::ways::Ground;
+use crate::ways::{Ground, is_between, placed};
 use lump_records::{Line, Vertex};
 use map_commands::{Command, LineSplit};
-use map_plane::{PlacedLine, is_at};
-use map_tables::{Kind, Map};
+use map_plane::PlacedLine;
+use map_tables::{Edit, Item, Kind, Map};
 use std::alloc::Global;
 
 /// The number of a line, or one that no line has.
@@ -40,6 +43,7 @@ impl Drawing {
         requires line { slice_get self.old.map.tables.lines number ≡ Some line.now }
         requires place { IsOnBorder border.now.edges.items at }
         requires free { is_taken self.old.map.tables.vertices at ≡ false }
+        requires between { is_between (placed self.old.map.tables (number, line.now)) at ≡ true }
         requires taken { IsTaken map.now.tables border.now number }
         ensures drawn { OnOk result (IsUnderway map.now.tables border.now round self.new) }
         ensures taken { IfOk result (IsTaken map.now.tables border.now) }
@@ -62,7 +66,46 @@ impl Drawing {
         Ok(new)
     }
 
-    // Cuts a line at a place, unless it ends there, and answers the number of the part behind the place.
+    // Cuts this line, which has the number, in two at a vertex, and answers the number of the new line.
+    fn cut_at(
+        &mut self,
+        map: &Map,
+        border: &Border,
+        round: Option<u16>,
+        number: u16,
+        line: &Line,
+        vertex: u16,
+    ) -> Result<u16, AreaError>
+        requires drawn { IsUnderway map.now.tables border.now round self.old }
+        requires number { number ≤ 32766 }
+        requires line { slice_get self.old.map.tables.lines number ≡ Some line.now }
+        requires range { IsLine line.now }
+        requires vertex { vertex ≤ 32766 }
+        requires there { vertex < length self.old.map.tables.vertices }
+        requires between { is_between (placed self.old.map.tables (number, line.now))
+            (nth_vertex self.old.map.tables.vertices vertex) ≡ true }
+        requires taken { IsTaken map.now.tables border.now number }
+        ensures drawn { OnOk result (IsUnderway map.now.tables border.now round self.new) }
+        ensures taken { IfOk result (IsTaken map.now.tables border.now) }
+        ensures refused { IfErr result (RefusesDrawing map.now.tables border.now.edges.items) }
+    {
+        let new = self.map.count(Kind::Line) as u16;
+        let short = Line {
+            v2: vertex,
+            ..*line
+        };
+        let rest = Line {
+            v1: vertex,
+            ..*line
+        };
+        self.put(map, border, Edit::Set(number, Item::Line(short)))?;
+        self.lines[usize::from(number)] = short;
+        self.put(map, border, Edit::Add(Item::Line(rest)))?;
+        self.lines.push(rest)?;
+        Ok(new)
+    }
+
+    // Cuts a line at a place, if that lies between its ends, and answers the number of the part behind the place.
     fn cut(
         &mut self,
         map: &Map,
@@ -82,16 +125,11 @@ impl Drawing {
             return Ok(number);
         }
         let line = self.map.line(u32::from(number)).unwrap();
-        let (from, to) = self.map.ends_of(&line);
-        if is_at(from, at) || is_at(to, at) {
+        if !is_between(&placed(&self.map, u32::from(number), &line), at) {
             return Ok(number);
         }
         match find_vertex(&self.vertices, at) {
-            Some(vertex) => {
-                let short = Line { v2: vertex, ..line };
-                self.set_line(map, border, round, number, short)?;
-                self.add_line(map, border, round, Line { v1: vertex, ..line })
-            }
+            Some(vertex) => self.cut_at(map, border, round, number, &line, vertex),
             None => self.split(map, border, round, number, &line, at),
         }
     }

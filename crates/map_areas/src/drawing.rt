@@ -4,7 +4,7 @@ ghost use Rattle.lump_records.specs.Sides.{no_side};
 ghost use Rattle.lump_records.specs.declared.records.Line.{Line};
 ghost use Rattle.lump_records.specs.declared.records.Side.{Side};
 ghost use Rattle.lump_records.specs.declared.records.Vertex.{Vertex};
-ghost use Rattle.map_areas.specs.Drawings.{BecameLine, IsUnderway, IsFitting, IsLedOn, IsOnBorder, IsRefusedForRoom, IsSole, IsTaken, KeepsLines, KeepsLinesBut};
+ghost use Rattle.map_areas.specs.Drawings.{BecamePart, IsUnderway, IsFitting, IsLedOn, IsOnBorder, IsRefusedForRoom, IsSole, IsTaken, KeepsLines, KeepsLinesBut};
 ghost use Rattle.map_areas.specs.Drawn.{DrawsOn, IsFaultOf, RefusesDrawing, TakesCommand};
 ghost use Rattle.map_areas.specs.Stays.{BecomesSide, IsDrawing};
 ghost use Rattle.map_commands.specs.declared.command.Command.TheVariants as command;
@@ -98,8 +98,8 @@ impl Drawing {
         commands
     }
 
-    // Makes an edit, if the copy accepts it, and notes its command.
-    fn put(&mut self, map: &Map, border: &Border, edit: Edit) -> Result<(), AreaError>
+    /// Makes an edit, if the copy accepts it, and notes its command.
+    pub(crate) fn put(&mut self, map: &Map, border: &Border, edit: Edit) -> Result<(), AreaError>
         requires led { IsLedOn map.now.tables border.now self.old }
         requires draws { DrawsOn border.now.edges.items (command.Edit edit) }
         requires fits { IsRefusedForRoom self.old.map.tables (command.Edit edit) }
@@ -222,7 +222,7 @@ impl Drawing {
         Ok(count as u16)
     }
 
-    /// Changes the line with the number.
+    /// Changes the line with the number, which leads as before.
     pub(crate) fn set_line(
         &mut self,
         map: &Map,
@@ -237,8 +237,10 @@ impl Drawing {
         requires fits { IsFitting self.old.map.tables line }
         requires here { number < length self.old.map.tables.lines }
         requires taken { IsTaken map.now.tables border.now number }
-        requires becomes { (was is : Line) → slice_get self.old.map.tables.lines number ≡ Some is
-            → BecameLine was is → BecameLine was line }
+        requires part { (was is : Line) → slice_get self.old.map.tables.lines number ≡ Some is
+            → BecamePart was is → BecamePart was line }
+        requires ends { (is : Line) → slice_get self.old.map.tables.lines number ≡ Some is
+            → (line.v1 ≡ is.v1) × (line.v2 ≡ is.v2) }
         ensures drawn { OnOk result (IsUnderway map.now.tables border.now round self.new) }
         ensures there { OnOk result
             (slice_get self.new.map.tables.lines number ≡ Some line) }

@@ -4,7 +4,7 @@ ghost use Rattle.std.specs.List.{list_any};
 ghost use Rattle.map_areas.specs.Apart.{doubled};
 ghost use Rattle.map_areas.specs.Ways.{comes_before, crosses_way, faces_left, is_between, is_left_of_way, is_same, left_faced, right_faced, runs_along, runs_with, sector_between, sector_by_side, sector_on_right, side_on_left, side_on_right, way};
 ghost use Rattle.map_plane.specs.Meeting.{is_on, spans_meet};
-ghost use Rattle.map_plane.specs.Places.{placed_lines};
+ghost use Rattle.map_plane.specs.Places.{placed, placed_lines};
 ghost use Rattle.map_tables.specs.WellFormed.{WellFormed};
 
 use crate::border::{sum, twice};
@@ -51,6 +51,19 @@ pub(crate) fn way(from: Vertex, to: Vertex) -> PlacedLine
         from,
         to,
         is_wall: false,
+    }
+}
+
+/// A line with its number and the places of its ends.
+pub(crate) fn placed(map: &Map, number: u32, line: &Line) -> PlacedLine
+    ensures { result ≡ placed map.now.tables (number, line.now) }
+{
+    let (from, to) = map.ends_of(line);
+    PlacedLine {
+        number,
+        from,
+        to,
+        is_wall: !line.has_left(),
     }
 }
 

@@ -39,7 +39,7 @@ find_same p q from (suc n) same =
     ∙ ap (λ (o : Option ℕ). cond (q from) (Some from) o)
     (find_same p q (from + 1) n (λ k low high. same k (omega (arith, low)) (omega (arith, high))))
 
-find_below : (p : ℕ → Bool) (from n k : ℕ) → find p (range_with_len from n) ≡ Some k → k < from + n
+pub find_below : (p : ℕ → Bool) (from n k : ℕ) → find p (range_with_len from n) ≡ Some k → k < from + n
 find_below p from zero k e = absurd (cc)
 find_below p from (suc n) k e = by (p from) (find_below p (from + 1) n k) e
   where

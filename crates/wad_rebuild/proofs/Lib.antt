@@ -2,9 +2,13 @@ pub mod MadeLemmas
 pub mod AddLemmas
 pub mod PartLemmas
 pub mod WholeLemmas
+pub mod Contents
+pub mod Padded
 pub mod AlikeLevels
 pub mod AlikeFates
 pub mod ReadBack
 pub mod MapLevels
 pub mod BuildBytes
 pub mod OwnLevels
+pub mod Filled
+pub mod Given

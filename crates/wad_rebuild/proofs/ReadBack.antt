@@ -82,7 +82,7 @@ none_is test (x ∷ xs) e (suc n) d h = none_is test xs (or_neither (test x) (li
 -- ---- the levels of a WAD follow one another
 
 -- from the k-th entry on
-abbrev Follow : List ℕ → ℕ → List RebuiltLevel → Type 0
+abbrev pub Follow : List ℕ → ℕ → List RebuiltLevel → Type 0
 Follow wad k [] = k ≤ lump_count wad
 Follow wad k (l ∷ ls) = (k ≤ l.entries.marker) × IsLevelAt wad l.entries × Follow wad l.entries.gl_end ls
 
@@ -158,7 +158,7 @@ map_twice : (xs : List RebuiltLevel) → markers xs ≡ map (λ (l : LevelEntrie
 map_twice [] = refl
 map_twice (x ∷ xs) = ap (λ (ns : List ℕ). x.entries.marker ∷ ns) (map_twice xs)
 
-levels_follow : (wad : List ℕ) (names : List (List ℕ)) (ls : List RebuiltLevel) → AreRebuilt wad names ls → Follow wad 0 ls
+pub levels_follow : (wad : List ℕ) (names : List (List ℕ)) (ls : List RebuiltLevel) → AreRebuilt wad names ls → Follow wad 0 ls
 levels_follow wad names ls are =
     follow_from wad (lump_count wad) 0 0 ls (map_twice ls ∙ are.levels_are.markers) (levels_all wad ls are.levels_are.each) (omega arith) (omega arith)
     (λ j above below. absurd (omega arith))

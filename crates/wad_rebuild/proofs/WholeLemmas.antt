@@ -1,5 +1,5 @@
 -- What refuses a WAD, and what it has after its levels are built anew.
-use Rattle.std.proofs.Common.{◌≡◌, ◌∙◌, refl, sym, ap, subst, ℕ, zero, suc, ◌+◌, ◌<◌, ◌≤◌, inr, Bool, true, false, ◌&&◌, List, [], ◌∷◌, ◌++◌, length, get_or, take, drop, map, arith, Option, None, Some}
+use Rattle.std.proofs.Common.{◌≡◌, ◌∙◌, refl, sym, ap, subst, ℕ, zero, suc, ◌+◌, ◌<◌, ◌≤◌, Bool, true, false, ◌&&◌, List, [], ◌∷◌, ◌++◌, length, get_or, take, drop, map, arith, Option, None}
 use Rattle.std.specs.Prelude.{All}
 use Rattle.std.specs.List.{list_all, list_any}
 use Rattle.std.proofs.Math.Seq.{take-suc}
@@ -7,16 +7,15 @@ use Rattle.std.proofs.lemmas.List.{map-append, take_all}
 use Rattle.std.proofs.lemmas.List.Elements.{All-nil, All-cons, All-head, All-push, All-tail}
 use Rattle.wad_file.specs.Directory.{entry, entry_text, wad_refusal}
 use Rattle.wad_file.specs.Fields.{same_bytes}
-use Rattle.wad_file.specs.Lumps.{IsWadOf, Lump, wad_of}
-use Rattle.wad_file.specs.Placed.{IsListWritten, Placed, lumps_over, placed_size}
+use Rattle.wad_file.specs.Placed.{Placed, placed_size}
 use Rattle.wad_file.proofs.NameLemmas.{any_map}
-use Rattle.wad_file.proofs.PlacedLemmas.{contents_over}
 use Rattle.wad_levels.specs.Called.{is_asked_of, is_level_asked, last_of_each}
 use Rattle.wad_levels.specs.Entries.{AreLevels, IsLevelAt}
 use Rattle.wad_levels.specs.declared.entries.LevelEntries.{LevelEntries}
-use Rattle.wad_rebuild.specs.Rebuilt.{AreRebuilt, IsFate, IsRebuilt, RefusesRebuild, greatest_size, has_level, lumps_refusal, rebuilt_lumps, whole_refusal}
-use Rattle.wad_rebuild.specs.Parts.{AddsLumps, RefusesPut}
-use Rattle.wad_rebuild.specs.Whole.{IsAcceptedWith, IsListOf, IsShortWad, RefusesBytes}
+use Rattle.wad_rebuild.specs.Rebuilt.{AreRebuilt, IsFate, IsRebuilt, has_level, lumps_refusal, size_limit, whole_refusal}
+use Rattle.wad_rebuild.specs.Held.{placed_lumps}
+use Rattle.wad_rebuild.specs.Parts.{AddsPlaced, RefusesPut}
+use Rattle.wad_rebuild.specs.Whole.{IsListOf, RefusesBytes}
 use Rattle.wad_rebuild.specs.declared.error.RebuildError.{RebuildError}
 use Rattle.wad_rebuild.specs.declared.error.RebuildError.TheVariants.{TooLong, NotAWad, DirectoryOutside, NoSuchLevel, LumpOutside, OutOfMemory}
 use Rattle.wad_rebuild.specs.declared.levels.RebuiltLevel.{RebuiltLevel}
@@ -115,53 +114,22 @@ all_rebuilt wad names levels n done are s h =
 
 -- the lumps that were listed of a WAD, and what refuses them
 pub listed_all :
-    (wad : List ℕ) (levels : List RebuiltLevel) (a b : BoundedWad) → a.lumps ≡ [] → a.most ≡ greatest_size wad → AddsLumps wad a b (rebuilt_lumps wad levels) → IsListOf wad levels b.lumps
-listed_all wad levels a b none most p =
-    let size : placed_size a.lumps ≡ 12 = ap placed_size none in
-    let g = p.grows in
+    (wad : List ℕ) (held : Option (List ℕ)) (len : ℕ) (levels : List RebuiltLevel) (a b : BoundedWad) → a.lumps ≡ [] → a.most ≡ size_limit len → AddsPlaced a b (placed_lumps wad held levels)
+    → IsListOf wad held len levels b.lumps
+listed_all wad held len levels a b none most p =
     let m = p.most_stays in
     let fits = p.fits.fits in
     let short = p.fits.short in
     record {
-      lumps_are = p.lumps_are ∙ ap (λ (ps : List Placed). lumps_over wad ps ++ rebuilt_lumps wad levels) none;
-      size_is = omega (arith, size, g);
+      lumps_are = p.lumps_are ∙ ap (λ (ps : List Placed). ps ++ placed_lumps wad held levels) none;
       fits = omega (arith, fits, m, most);
       short = omega (arith, fits, short);
     }
 
-pub list_refused :
-    (wad : List ℕ) (a : BoundedWad) (lumps : List Lump) (e : RebuildError) → a.lumps ≡ [] → a.most ≡ greatest_size wad → RefusesPut a lumps e → RefusesBytes (greatest_size wad) lumps e
-list_refused wad a lumps TooLong none most r = let size : placed_size a.lumps ≡ 12 = ap placed_size none in omega (arith, size, most, r)
-list_refused wad a lumps NotAWad none most r = r
-list_refused wad a lumps DirectoryOutside none most r = r
-list_refused wad a lumps NoSuchLevel none most r = r
-list_refused wad a lumps LumpOutside none most r = r
-list_refused wad a lumps OutOfMemory none most r = tt
-
--- what is written of the list, from the WAD, is the WAD of its lumps
-pub written_of_list : (wad kind : List ℕ) (levels : List RebuiltLevel) (list : List Placed) (old new : Option (List ℕ)) → kind ≡ take 4 wad → IsListOf wad levels list
-    → (w : IsListWritten (Some wad) kind list old new) → IsWadOf (take 4 wad) (rebuilt_lumps wad levels) (wad_of kind w.lumps)
-written_of_list wad kind levels list old new k l w =
-    let e = contents_over wad list w.lumps w.are ∙ l.lumps_are in
-    subst (λ (d : List ℕ). IsWadOf d (rebuilt_lumps wad levels) (wad_of kind w.lumps)) k (subst (λ (ls : List Lump). IsWadOf kind ls (wad_of kind w.lumps)) e w.reads)
-
--- so are the bytes in memory
-pub short_wad : (wad kind : List ℕ) (levels : List RebuiltLevel) (list : List Placed) (old new : List ℕ) → kind ≡ take 4 wad → old ≡ [] → IsListOf wad levels list
-    → IsListWritten (Some wad) kind list (Some old) (Some new) → IsShortWad (take 4 wad) (greatest_size wad) (rebuilt_lumps wad levels) new
-short_wad wad kind levels list old new k none l w =
-    let s = l.size_is in
-    let f = l.fits in
-    let whole : new ≡ wad_of kind w.lumps = w.put ∙ ap (λ (b : List ℕ). b ++ wad_of kind w.lumps) none in
-    record {
-      wad_is = subst (IsWadOf (take 4 wad) (rebuilt_lumps wad levels)) (sym whole) (written_of_list wad kind levels list (Some old) (Some new) k l w);
-      fits = omega (arith, s, f);
-    }
-
--- what refuses the bytes of an accepted WAD refuses it
-pub bytes_refused : (wad : List ℕ) (names : List (List ℕ)) (levels : List RebuiltLevel) (e : RebuildError) → IsAcceptedWith wad names levels → RefusesBytes (greatest_size wad) (rebuilt_lumps wad levels) e → RefusesRebuild wad names e
-bytes_refused wad names levels TooLong a r = inr (record { accepted = a.accepted; levels = levels; are = a.levels_are; long = r })
-bytes_refused wad names levels NotAWad a r = absurd r
-bytes_refused wad names levels DirectoryOutside a r = absurd r
-bytes_refused wad names levels NoSuchLevel a r = absurd r
-bytes_refused wad names levels LumpOutside a r = absurd r
-bytes_refused wad names levels OutOfMemory a r = tt
+pub list_refused : (a : BoundedWad) (len : ℕ) (list : List Placed) (e : RebuildError) → a.lumps ≡ [] → a.most ≡ size_limit len → RefusesPut a list e → RefusesBytes (size_limit len) (placed_size list) e
+list_refused a len list TooLong none most r = let size : placed_size a.lumps ≡ 12 = ap placed_size none in omega (arith, size, most, r)
+list_refused a len list NotAWad none most r = r
+list_refused a len list DirectoryOutside none most r = r
+list_refused a len list NoSuchLevel none most r = r
+list_refused a len list LumpOutside none most r = r
+list_refused a len list OutOfMemory none most r = tt

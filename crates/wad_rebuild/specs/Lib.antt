@@ -6,6 +6,7 @@ pub mod Errors
 pub mod Texts
 pub mod Rebuilt
 pub mod Parts
+pub mod Held
 pub mod Whole
 pub mod ReadBack
 pub mod Alike

@@ -126,10 +126,13 @@ abbrev pub whole_refusal : List ℕ → List (List ℕ) → Option RebuildError
 whole_refusal wad names =
     option_or (option_map not_rebuilt (wad_refusal wad)) (lumps_refusal wad names)
 
--- how many bytes a WAD may have with its levels built anew: sixteen times as many as it has, but
+-- how many bytes a WAD of so many may have with its levels built anew: sixteen times as many, but
 -- always 64 MB, and never four gigabytes
+abbrev pub size_limit : ℕ → ℕ
+size_limit len = min (max (16 * len) 67108864) 4294967295
+
 abbrev pub greatest_size : List ℕ → ℕ
-greatest_size wad = min (max (16 * length wad) 67108864) 4294967295
+greatest_size wad = size_limit (length wad)
 
 -- nothing refuses the WAD, but with its levels built anew it would have more bytes than it may have
 pub record Outgrows (wad : List ℕ) (names : List (List ℕ)) : Type 0 where

@@ -1,11 +1,12 @@
 -- What is found of a WAD before its levels are built anew, and why it isn't written after.
-use Rattle.std.specs.Prelude.{◌≡◌, ℕ, ◌<◌, ◌≤◌, List, All, Some, None}
+use Rattle.std.specs.Prelude.{◌≡◌, ℕ, ◌<◌, ◌≤◌, List, All, Option, Some, None}
 use Rattle.wad_levels.specs.Entries.{AreLevels, IsLevelAt}
 use Rattle.wad_levels.specs.declared.entries.LevelEntries.{LevelEntries}
 use Rattle.wad_file.specs.Lumps.{IsWadOf, Lump, wad_size}
-use Rattle.wad_file.specs.Placed.{Placed, lumps_over, placed_size}
+use Rattle.wad_file.specs.Placed.{Placed, placed_size}
 use Rattle.wad_rebuild.specs.Parts.{HasLumps}
-use Rattle.wad_rebuild.specs.Rebuilt.{AreRebuilt, greatest_size, lumps_refusal, rebuilt_lumps, whole_refusal}
+use Rattle.wad_rebuild.specs.Held.{placed_lumps}
+use Rattle.wad_rebuild.specs.Rebuilt.{AreRebuilt, lumps_refusal, size_limit, whole_refusal}
 use Rattle.wad_rebuild.specs.declared.error.RebuildError.{RebuildError}
 use Rattle.wad_rebuild.specs.declared.error.RebuildError.TheVariants.{TooLong, NotAWad, DirectoryOutside, NoSuchLevel, LumpOutside, OutOfMemory}
 use Rattle.wad_rebuild.specs.declared.levels.RebuiltLevel.{RebuiltLevel}
@@ -22,14 +23,14 @@ abbrev pub RefusesFinding : List ℕ → List (List ℕ) → RebuildError → Ty
 RefusesFinding wad names OutOfMemory = Unit {0}
 RefusesFinding wad names e = lumps_refusal wad names ≡ Some e
 
--- the lumps take more bytes than they may, or there is no memory
-abbrev pub RefusesBytes : ℕ → List Lump → RebuildError → Type 0
-RefusesBytes most lumps TooLong = most < wad_size lumps
-RefusesBytes most lumps OutOfMemory = Unit {0}
-RefusesBytes most lumps NotAWad = ⊥
-RefusesBytes most lumps DirectoryOutside = ⊥
-RefusesBytes most lumps NoSuchLevel = ⊥
-RefusesBytes most lumps LumpOutside = ⊥
+-- the WAD takes more bytes than it may have, or there is no memory
+abbrev pub RefusesBytes : ℕ → ℕ → RebuildError → Type 0
+RefusesBytes most size TooLong = most < size
+RefusesBytes most size OutOfMemory = Unit {0}
+RefusesBytes most size NotAWad = ⊥
+RefusesBytes most size DirectoryOutside = ⊥
+RefusesBytes most size NoSuchLevel = ⊥
+RefusesBytes most size LumpOutside = ⊥
 
 -- the bytes are a WAD of a kind with these lumps, and at most so many
 pub record IsShortWad (kind : List ℕ) (most : ℕ) (lumps : List Lump) (wad : List ℕ) : Type 0 where
@@ -49,10 +50,10 @@ pub record IsAcceptedWith (wad : List ℕ) (names : List (List ℕ))
   pub levels_are : AreRebuilt wad names levels
   pub ready : AreReady wad levels
 
--- the lumps are those of the WAD after what became of its levels, if this WAD is their source, and
--- with them it has at most the bytes that it may have
-pub record IsListOf (wad : List ℕ) (levels : List RebuiltLevel) (lumps : List Placed) : Type 0 where
-  pub lumps_are : lumps_over wad lumps ≡ rebuilt_lumps wad levels
-  pub size_is : placed_size lumps ≡ wad_size (rebuilt_lumps wad levels)
-  pub fits : placed_size lumps ≤ greatest_size wad
-  pub short : placed_size lumps < 4294967296
+-- these are the lumps of the WAD after what became of its levels, as they are written, and with them
+-- it has at most the bytes that it may have
+pub record IsListOf (wad : List ℕ) (held : Option (List ℕ)) (len : ℕ) (levels : List RebuiltLevel)
+    (list : List Placed) : Type 0 where
+  pub lumps_are : list ≡ placed_lumps wad held levels
+  pub fits : placed_size list ≤ size_limit len
+  pub short : placed_size list < 4294967296

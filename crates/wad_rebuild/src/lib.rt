@@ -4,6 +4,7 @@
 mod cause;
 mod error;
 mod front;
+mod held;
 mod kept;
 mod laws;
 mod levels;
@@ -15,6 +16,7 @@ mod whole;
 
 pub use cause::Cause;
 pub use error::RebuildError;
+pub use held::{Held, entry_in, is_drawn_name};
 pub use kept::KeptFault;
 pub use laws::{
     built_levels_are_drawn, levels_rest_on_their_lumps, rebuilt_levels_read_back,

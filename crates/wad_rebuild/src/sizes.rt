@@ -1,7 +1,7 @@
 //! How long all lumps of a WAD are together, and how long it may be with its levels built anew.
 ghost use Rattle.std.specs.Prelude.{◌≡◌};
 ghost use Rattle.wad_file.specs.Directory.{lump_count};
-ghost use Rattle.wad_rebuild.specs.Rebuilt.{greatest_size, is_crowded, sizes_below};
+ghost use Rattle.wad_rebuild.specs.Rebuilt.{is_crowded, size_limit, sizes_below};
 
 use wad_file::Wad;
 
@@ -29,11 +29,10 @@ pub fn is_crowded(wad: &Wad<'_>) -> bool
     all_sizes(wad) / 4 > wad.bytes().len() as u64
 }
 
-/// How many bytes a WAD may have with its levels built anew.
-pub fn greatest_size(wad: &Wad<'_>) -> u64
-    ensures { result ≡ greatest_size wad.now }
+/// How many bytes a WAD of `len` bytes may have with its levels built anew.
+pub fn size_limit(len: u64) -> u64
+    ensures { result ≡ size_limit len }
 {
-    let len = wad.bytes().len() as u64;
     if len <= ALWAYS / 16 {
         ALWAYS
     } else if len <= MOST / 16 {

@@ -1,12 +1,16 @@
 //! A WAD whose levels are built anew.
 ghost use Rattle.std.specs.Prelude.{◌≡◌, MatchResult, map, take, string_bytes};
-ghost use Rattle.wad_rebuild.specs.Rebuilt.{IsRebuiltWad, RefusesRebuild, greatest_size, rebuilt_lumps};
+ghost use Rattle.wad_file.specs.Lumps.{wad_size};
+ghost use Rattle.wad_file.specs.Placed.{placed_size};
+ghost use Rattle.wad_rebuild.specs.Held.{HasDirectory, directory_of, placed_lumps};
+ghost use Rattle.wad_rebuild.specs.Rebuilt.{IsRebuiltWad, RefusesRebuild, greatest_size, rebuilt_lumps, size_limit};
 ghost use Rattle.wad_rebuild.specs.Whole.{AreReady, IsAcceptedWad, IsAcceptedWith, IsListOf, IsShortWad, RefusesFinding, RefusesBytes};
 
 use crate::error::RebuildError;
+use crate::held::Held;
 use crate::levels::{RebuiltLevel, have_levels, rebuilt_levels};
 use crate::parts::{BoundedWad, put_rebuilt};
-use crate::sizes::{greatest_size, is_crowded};
+use crate::sizes::{is_crowded, size_limit};
 use std::alloc::Global;
 use wad_file::{LumpList, Wad, WadError};
 use wad_levels::{LevelEntries, levels_in};
@@ -101,8 +105,8 @@ pub fn rebuild_levels<'a>(
     }
 }
 
-/// The lumps of the WAD with its levels built anew: what was made of a level is at hand, the others have their places
-/// in the old WAD, the source of the list.
+/// The lumps of the WAD with its levels built anew: what was made of a level and what stands in memory of the old WAD
+/// is at hand, the others have their places in the file that the WAD is of, which has `len` bytes.
 ///
 /// # Errors
 ///
@@ -110,19 +114,23 @@ pub fn rebuild_levels<'a>(
 pub fn list_lumps<'a>(
     alloc: Global,
     wad: &Wad<'a>,
+    held: &Held<'_>,
+    len: u64,
     levels: &'a [RebuiltLevel],
 ) -> Result<LumpList<'a>, RebuildError>
     requires ready { AreReady wad.now levels.now }
+    requires directory { HasDirectory wad.now (directory_of held.now) }
     ensures { MatchResult result
-        (IsListOf wad.now levels.now)
-        (RefusesBytes (greatest_size wad.now) (rebuilt_lumps wad.now levels.now)) }
+        (IsListOf wad.now (directory_of held.now) len levels.now)
+        (RefusesBytes (size_limit len)
+        (placed_size (placed_lumps wad.now (directory_of held.now) levels.now))) }
 {
-    let most = greatest_size(wad);
+    let most = size_limit(len);
     let mut to = match LumpList::begin(alloc, wad.count() as usize) {
         Ok(lumps) => BoundedWad { lumps, most },
         Err(_) => return Err(RebuildError::OutOfMemory),
     };
-    match put_rebuilt(wad, levels, &mut to) {
+    match put_rebuilt(wad, held, levels, &mut to) {
         Ok(()) => {}
         Err(error) => return Err(error),
     }
@@ -130,15 +138,16 @@ pub fn list_lumps<'a>(
     Ok(lumps)
 }
 
-// The bytes of the new WAD.
+// The bytes of the new WAD, of one that stands in memory whole.
 fn written(alloc: Global, wad: &Wad<'_>, levels: &[RebuiltLevel]) -> Result<Vec<u8>, RebuildError>
     requires ready { AreReady wad.now levels.now }
     ensures { MatchResult result
         (λ v. IsShortWad (take 4 wad.now) (greatest_size wad.now) (rebuilt_lumps wad.now levels.now)
         v.items)
-        (RefusesBytes (greatest_size wad.now) (rebuilt_lumps wad.now levels.now)) }
+        (RefusesBytes (greatest_size wad.now) (wad_size (rebuilt_lumps wad.now levels.now))) }
 {
-    let lumps = match list_lumps(alloc, wad, levels) {
+    let mut source = wad.bytes();
+    let lumps = match list_lumps(alloc, wad, &Held::Whole, source.len() as u64, levels) {
         Ok(lumps) => lumps,
         Err(error) => return Err(error),
     };
@@ -146,7 +155,6 @@ fn written(alloc: Global, wad: &Wad<'_>, levels: &[RebuiltLevel]) -> Result<Vec<
         Ok(bytes) => bytes,
         Err(_) => return Err(RebuildError::OutOfMemory),
     };
-    let mut source = wad.bytes();
     match lumps.write_to(wad.kind(), &mut source, &mut bytes) {
         Ok(()) => Ok(bytes),
         Err(_) => Err(RebuildError::OutOfMemory),

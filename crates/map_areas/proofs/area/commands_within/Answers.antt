@@ -23,6 +23,7 @@ use Rattle.map_areas.proofs.Bordering.{covered_all}
 use Rattle.map_areas.proofs.InOrder.{crossing_in_order, crossing_of_map, drawing_in_order, passed_on, round_in_order, round_of_map}
 use Rattle.map_areas.proofs.Led.{not_several}
 use Rattle.map_areas.proofs.OnBorder.{AreEndsInRange, edges_on, round_in_range, stops_on}
+use Rattle.map_areas.proofs.Parts.{in_parts}
 use Rattle.map_areas.proofs.Sofar.{drawing_keeps}
 use Rattle.map_areas.proofs.Whole.{bordered_drawn, stays_drawn}
 use Rattle.map_areas.proofs.area.commands_within.Goals as goal
@@ -85,7 +86,8 @@ returns-clause-area c =
       round = round;
       stays =
           stays_drawn m new cs es border.edges.items border.doubled.items round (length m.sectors) done.led.led edges twice refl
-          (drawing_keeps m border drawing done.led) done.becoming.sides (λ n l is. let y = done.becoming.lines n l is in (y.0, y.1, y.2.line)) done.becoming.alone;
+          (drawing_keeps m border drawing done.led) done.becoming.sides (λ n l is. let y = done.becoming.lines n l is in (y.0, y.1, y.2.line))
+          (in_parts m new done.becoming.parts) done.becoming.alone;
       border =
           bordered_drawn m new cs es border.edges.items round c.count-sectors.result done.led.led edges number
           (covered_all m new round c.count-sectors.result border.cut_edges.items border.edges.items (c.in_ok-border.ensures.cut_edges ∙ sym edges)

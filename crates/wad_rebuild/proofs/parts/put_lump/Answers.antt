@@ -4,7 +4,9 @@ use Rattle.wad_rebuild.proofs.AddLemmas.{list_one, one_fits, one_overfills}
 use Rattle.wad_rebuild.proofs.parts.put_lump.Goals as goal
 
 pub returns-then-not-has_room : goal.returns-then-not-has_room
-returns-then-not-has_room c = one_overfills c.args.to.now (length c.args.bytes.now) c.has_room.result c.has_room.ensures c.if-not-has_room.true
+returns-then-not-has_room c =
+    one_overfills c.args.to.now (record { name = c.args.name; content = AtHand c.args.bytes.now }) (length c.args.bytes.now) c.has_room.result refl c.has_room.ensures
+    c.if-not-has_room.true
 
 pub push-requires : goal.push-requires
 push-requires c = one_fits c.args.to.now (length c.args.bytes.now) c.has_room.result c.requires c.has_room.ensures c.if-not-has_room.false

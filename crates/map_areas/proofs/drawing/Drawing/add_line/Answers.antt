@@ -6,7 +6,8 @@ use Rattle.map_tables.specs.Tables.{Tables}
 use Rattle.map_areas.specs.Drawings.{KeepsLines}
 use Rattle.map_areas.specs.declared.drawing.Drawing.{Drawing}
 use Rattle.map_areas.proofs.Sofar.{drawn_by, taken_new}
-use Rattle.map_areas.proofs.Steps.{at_end, becoming_line, kept_line}
+use Rattle.map_areas.proofs.Items.{at_end}
+use Rattle.map_areas.proofs.Steps.{becoming_line, kept_line}
 use Rattle.map_areas.proofs.Fits.{line_fits}
 use Rattle.map_areas.proofs.drawing.Drawing.add_line.Goals as goal
 

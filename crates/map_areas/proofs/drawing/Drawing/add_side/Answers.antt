@@ -4,7 +4,8 @@ use Rattle.map_tables.specs.Edits.{with_side}
 use Rattle.map_tables.specs.Tables.{Tables}
 use Rattle.map_areas.specs.Drawings.{KeepsLines}
 use Rattle.map_areas.proofs.Sofar.{drawn_by, side_room}
-use Rattle.map_areas.proofs.Steps.{at_end, becoming_side, in_longer, kept_side, past_end}
+use Rattle.map_areas.proofs.Items.{at_end, in_longer, past_end}
+use Rattle.map_areas.proofs.Steps.{becoming_side, kept_side}
 use Rattle.map_areas.proofs.Fits.{side_fits}
 use Rattle.map_areas.proofs.drawing.Drawing.add_side.Goals as goal
 

@@ -6,7 +6,7 @@ use Rattle.lump_records.specs.declared.records.Side.{Side}
 use Rattle.lump_records.specs.declared.records.Vertex.{Vertex}
 use Rattle.map_plane.specs.Meeting.{is_at}
 use Rattle.map_tables.specs.WellFormed.{nth_vertex}
-use Rattle.map_areas.specs.Drawings.{BecameLine, side_on}
+use Rattle.map_areas.specs.Drawings.{BecamePart, side_on}
 use Rattle.map_areas.proofs.Steps.{became_open, but_then, lines_but}
 use Rattle.std.proofs.lemmas.Bool.Decides.{nat_tests}
 use Rattle.std.proofs.lemmas.Option.{slice_get_within}
@@ -16,12 +16,19 @@ use Rattle.map_areas.proofs.drawing.Drawing.open.Goals as goal
 same : {a b : Line} → Some a ≡ Some b → a ≡ b
 same e = cc
 
-pub set_line-requires-clause-becomes : goal.set_line-requires-clause-becomes
-set_line-requires-clause-becomes c = λ was is at r.
+pub set_line-requires-clause-part : goal.set_line-requires-clause-part
+set_line-requires-clause-part c = λ was is at r.
     let which = c.args.which.now in
     let here : is ≡ which.line =
     same (sym at ∙ ap (λ ls. slice_get ls which.number) (c.in_ok-left.ensures.lines ∙ c.in_ok-right.ensures.lines) ∙ c.requires.own.line) in
-    became_open was which.line _ refl refl refl c.opened_flags.ensures.flags c.in_ok-left.ensures.number c.requires.left (subst (BecameLine was) here r)
+    became_open was which.line _ refl refl c.opened_flags.ensures.flags c.in_ok-left.ensures.number c.requires.left (subst (BecamePart was) here r)
+
+pub set_line-requires-clause-ends : goal.set_line-requires-clause-ends
+set_line-requires-clause-ends c = λ is at.
+    let which = c.args.which.now in
+    let here : which.line ≡ is =
+    same (sym (ap (λ ls. slice_get ls which.number) (c.in_ok-left.ensures.lines ∙ c.in_ok-right.ensures.lines) ∙ c.requires.own.line) ∙ at) in
+    (ap (λ (l : Line). l.v1) here, ap (λ (l : Line). l.v2) here)
 
 pub returns-clause-kept : goal.returns-clause-kept
 returns-clause-kept c =

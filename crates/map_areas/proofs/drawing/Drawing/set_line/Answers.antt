@@ -7,7 +7,8 @@ use Rattle.map_tables.specs.Tables.{Tables}
 use Rattle.map_areas.specs.Drawings.{KeepsLinesBut}
 use Rattle.map_areas.specs.declared.drawing.Drawing.{Drawing}
 use Rattle.map_areas.proofs.Sofar.{drawn_by, line_there}
-use Rattle.map_areas.proofs.Steps.{at_set, becoming_set_line, kept_set_line}
+use Rattle.map_areas.proofs.Items.{at_set}
+use Rattle.map_areas.proofs.Steps.{becoming_set_line, kept_set_line}
 use Rattle.map_areas.proofs.Fits.{set_line_fits}
 use Rattle.map_areas.proofs.drawing.Drawing.set_line.Goals as goal
 
@@ -24,7 +25,7 @@ returns-clause-drawn c =
     (ap (λ v. v.items) c.in_ok-put.ensures.vertices ∙ before.vertices)
     ((λ i. slice_set (c.in_ok-put.ensures.lines i).items (c.from.ensures i) c.args.line) ∙ ap (λ (ls : List Line). slice_set ls c.args.number c.args.line) before.lines)
     (becoming_set_line c.args.map.now.tables c.args.border.now c.args.round t c.args.number c.args.line
-    (line_there t c.args.number c.args.line taken.accepted) c.requires.taken c.requires.becomes before.becoming) before.sectors
+    (line_there t c.args.number c.args.line taken.accepted) c.requires.taken c.requires.part c.requires.ends before.becoming) before.sectors
 
 pub returns-clause-there : goal.returns-clause-there
 returns-clause-there c =

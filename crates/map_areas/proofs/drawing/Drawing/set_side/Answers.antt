@@ -4,7 +4,8 @@ use Rattle.map_tables.specs.Edits.{with_side_at}
 use Rattle.map_tables.specs.Tables.{Tables}
 use Rattle.map_areas.specs.Drawings.{KeepsLinesBut}
 use Rattle.map_areas.proofs.Sofar.{drawn_by, side_there}
-use Rattle.map_areas.proofs.Steps.{at_set, becoming_set_side, beside_set, kept_set_side}
+use Rattle.map_areas.proofs.Items.{at_set, beside_set}
+use Rattle.map_areas.proofs.Steps.{becoming_set_side, kept_set_side}
 use Rattle.map_areas.proofs.Fits.{set_side_fits}
 use Rattle.std.proofs.lemmas.List.{length-set}
 use Rattle.map_areas.proofs.drawing.Drawing.set_side.Goals as goal

@@ -47,5 +47,5 @@ returns-clause-drawn c =
     (c.in_ok-push.ensures.items ∙ ap (λ (vs : List Vertex). vs ++ c.args.at ∷ []) before.vertices)
     (c.in_ok-push-2.ensures.items
     ∙ (λ i. slice_set (before.lines i) (c.from.ensures i) (cut_short (same i) (vertex i)) ++ cut_off (same i) (vertex i) ∷ []))
-    (becoming_split m b c.args.round t s c.args.line.now c.requires.line c.requires.taken before.becoming)
+    (becoming_split m b c.args.round t s c.args.line.now c.count-vertex.ensures.well_formed c.requires.line c.requires.taken c.requires.between before.becoming)
     before.sectors

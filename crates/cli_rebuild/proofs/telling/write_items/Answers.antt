@@ -2,7 +2,7 @@ use Rattle.std.proofs.Common.{◌≡◌, ◌++◌, [], ◌∷◌, List, ℕ, sym
 use Rattle.std.specs.Prelude.{codes, decimal}
 use Rattle.std.specs.Io.KnownBytes.{Appends}
 use Rattle.cli_rebuild.specs.Rebuilding.{items_text}
-use Rattle.cli_rebuild.proofs.request.write_items.Goals as goal
+use Rattle.cli_rebuild.proofs.telling.write_items.Goals as goal
 
 -- the parts one in the other, as they are written
 in_parts : (vertices segs subs nodes : ℕ) → items_text vertices segs subs nodes ≡ codes " rebuilt vertices " ++ (decimal vertices ++ (codes " segs " ++ (decimal segs

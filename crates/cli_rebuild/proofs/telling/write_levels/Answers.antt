@@ -1,6 +1,6 @@
 use Rattle.cli_rebuild.specs.Rebuilding.{fate_text}
 use Rattle.cli_rebuild.proofs.Rebuilding.{texts_more}
-use Rattle.cli_rebuild.proofs.request.write_levels.Goals as goal
+use Rattle.cli_rebuild.proofs.telling.write_levels.Goals as goal
 
 pub loop-level-preserved : goal.loop-level-preserved
 loop-level-preserved g c =

@@ -1,7 +1,7 @@
 use Rattle.std.proofs.Common.{take}
 use Rattle.std.specs.Io.KnownBytes.{Appends}
 use Rattle.cli_rebuild.specs.Rebuilding.{fate_texts}
-use Rattle.cli_rebuild.proofs.request.write_levels.Given as goal
+use Rattle.cli_rebuild.proofs.telling.write_levels.Given as goal
 
 -- the levels so far have been told
 abbrev pub invariant-loop-level : goal.invariant-loop-level

@@ -1,5 +1,5 @@
 use Rattle.cli_rebuild.proofs.Rebuilding.{left_told, made_told}
-use Rattle.cli_rebuild.proofs.request.write_level.Goals as goal
+use Rattle.cli_rebuild.proofs.telling.write_level.Goals as goal
 
 pub returns-in-Ok-write_made : goal.returns-in-Ok-write_made
 returns-in-Ok-write_made g c =
