@@ -17,7 +17,7 @@ pub made_over :
     → IsGiven wad directory len → IsAcceptedWith wad names levels → IsPutInto contents wad directory len levels size file → IsMadeOver contents wad directory len names levels size file
 made_over contents wad directory len names levels size file g a p =
     let r = given_rebuilt p.source wad directory len names levels p.list (contents p.new) (contents file) g a p.is p.written in
-    (r.whole, inl r.is_whole, (wad_of (take 4 wad) p.written.lumps, r.rebuilt, p.size_is ∙ sym p.written.long, (p.new, p.written.put)))
+    (r.whole, r.is_whole, (wad_of (take 4 wad) p.written.lumps, r.rebuilt, p.size_is ∙ sym p.written.long, (p.new, p.written.put)))
 
 -- or none was
 pub makes_none :
@@ -35,7 +35,7 @@ pub rebuilt_over :
     (unread : EditorError) (size : ℕ) (file : F) (u w d x : Option (List ℕ)) → IsMadeOver contents wad directory len names levels size file → IsTold how levels size u w d x
     → IsRebuiltOver wad directory len names unread how u w d x
 rebuilt_over contents how wad directory len names levels unread size file u w d x m told =
-    inl (m.0, m.1, rebuilt_told how m.0 names levels m.2.0 size u w d x m.2.1 m.2.2 told)
+    inl (m.0, inl m.1, rebuilt_told how m.0 names levels m.2.0 size u w d x m.2.1 m.2.2 told)
 
 -- nothing was made, and nothing told
 pub none_over :

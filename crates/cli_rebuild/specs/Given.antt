@@ -37,11 +37,11 @@ PutsNone wad directory len levels unread refusal =
     × RefusesBytes (size_limit len) (placed_size (placed_lumps wad directory levels)) e)
     ⊎ ((refusal ≡ of.Lines WriterFailed) ⊎ (refusal ≡ of.Lines unread))
 
--- the file was made of the WAD with its levels built anew
+-- the file was made of the whole WAD with its levels built anew
 abbrev pub IsMadeOver : {F : Type 0} → (F → Option (List ℕ)) → List ℕ → Option (List ℕ) → ℕ
     → List (List ℕ) → List RebuiltLevel → ℕ → F → Type 0
 IsMadeOver contents wad directory len names levels size file =
-    (whole : List ℕ) × IsOfGiven wad directory len whole
+    (whole : List ℕ) × IsWholeOf wad directory len whole
     × IsMadeFrom contents whole names levels size file
 
 -- no file was made: the WAD is refused, or the file can't be made; or the WAD can't be read
