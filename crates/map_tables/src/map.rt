@@ -25,7 +25,6 @@ ghost use Rattle.map_tables.specs.Outcomes.{Covers, Spends, no_need, nothing};
 use crate::edit::Need;
 use crate::error::MapError;
 use crate::kind::Kind;
-use crate::map::draft::Draft;
 use crate::map::keyed_line::{KeyedLine, numbered_line};
 use crate::map::keyed_side::{KeyedSide, numbered_side};
 use crate::map::table::Table;
@@ -92,14 +91,19 @@ impl Map {
         }
     }
 
-    /// A copy of the map: its name and its items, under keys of their own.
+    /// A copy of the map: its name and its items, under the same keys.
     pub fn copy(&self, alloc: Global) -> Result<Map, MapError>
         ensures tables { IfOk result (λ copy. copy.tables ≡ self.now.tables) }
         ensures memory { IsOkUnless result MapError.OutOfMemory }
     {
-        let draft = Draft::of(alloc, self)?;
-        let copy = draft.to_map(alloc)?;
-        Ok(copy)
+        Ok(Map {
+            name: self.name,
+            vertices: self.vertices.copy(alloc)?,
+            sectors: self.sectors.copy()?,
+            sides: self.sides.copy()?,
+            lines: self.lines.copy()?,
+            things: self.things.copy()?,
+        })
     }
 
     /// The map's name: that of the marker lump of its level.

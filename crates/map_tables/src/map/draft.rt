@@ -9,8 +9,8 @@ use crate::error::{MapError, lacks_memory};
 use crate::form::{are_apart, are_linked, have_sectors};
 use crate::map::Map;
 use crate::map::header::{count_at, name_at};
-use crate::map::keyed_line::{keyed_lines, numbered_lines};
-use crate::map::keyed_side::{keyed_sides, numbered_sides};
+use crate::map::keyed_line::keyed_lines;
+use crate::map::keyed_side::keyed_sides;
 use crate::map::table::Table;
 use crate::map::vertex_table::VertexTable;
 use crate::ranges::{are_areas, are_places, is_named_with};
@@ -56,22 +56,6 @@ impl Model for Draft {
 }
 
 impl Draft {
-    // The draft of a map's tables.
-    pub(super) fn of(alloc: Global, map: &Map) -> Result<Draft, MapError>
-        ensures tables { IfOk result (λ d. d ≡ map.now.tables) }
-        ensures well_formed { WellFormed map.now.tables }
-        ensures memory { IsOkUnless result MapError.OutOfMemory }
-    {
-        Ok(Draft {
-            name: map.name,
-            vertices: map.vertices.to_vec(alloc)?,
-            sectors: map.sectors.to_vec(alloc)?,
-            sides: numbered_sides(alloc, &map.sectors, &map.sides)?,
-            lines: numbered_lines(alloc, &map.vertices, &map.sides, &map.lines)?,
-            things: map.things.to_vec(alloc)?,
-        })
-    }
-
     // Reads the draft that framed bytes begin with.
     pub(super) fn read(alloc: Global, bytes: &[u8]) -> Result<Draft, MapError>
         requires { IsFramed bytes.now }

@@ -236,6 +236,23 @@ impl<T: Copy> Table<T> {
         Ok(table)
     }
 
+    // A copy of the table, with the same keys. A clone of an item is the item itself.
+    pub(super) fn copy(&self) -> Result<Table<T>, MapError>
+        requires exact { (x y : T) → T.is_clone x y → y ≡ x }
+        ensures items { IfOk result (λ copy. copy.items ≡ self.now.items) }
+        ensures keys { IfOk result (λ copy. copy.keys ≡ self.now.keys) }
+        ensures memory { IsOkUnless result MapError.OutOfMemory }
+    {
+        let items = self.items.clone()?;
+        let order = self.order.clone()?;
+        let ranks = self.ranks.clone()?;
+        Ok(Table {
+            items,
+            order,
+            ranks,
+        })
+    }
+
     // The list of the items.
     pub(super) fn to_vec(&self, alloc: Global) -> Result<Vec<T>, MapError>
         ensures items { IfOk result (λ list. list.items ≡ self.now.items) }

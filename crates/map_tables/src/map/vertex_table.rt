@@ -66,6 +66,20 @@ impl VertexTable {
         Ok(VertexTable { items, places })
     }
 
+    // A copy of the table, with the same keys.
+    pub(super) fn copy(&self, alloc: Global) -> Result<VertexTable, MapError>
+        requires few { length self.now.items ≤ 32767 }
+        ensures items { IfOk result (λ copy. copy.items ≡ self.now.items) }
+        ensures keys { IfOk result (λ copy. copy.keys ≡ self.now.keys) }
+        ensures memory { IsOkUnless result MapError.OutOfMemory }
+    {
+        let items = self.items.copy()?;
+        let mut places = Places::new(alloc);
+        places.reserve(items.len())?;
+        places.refill(&items);
+        Ok(VertexTable { items, places })
+    }
+
     // The list of the vertices.
     pub(super) fn to_vec(&self, alloc: Global) -> Result<Vec<Vertex>, MapError>
         ensures items { IfOk result (λ list. list.items ≡ self.now.items) }
