@@ -119,6 +119,7 @@ fn is_nearer(place: Vertex, l: &PlacedLine, k: &PlacedLine) -> bool
 }
 
 // The nearer of a line to the east of the place, if there is one, and another line, if that is to the east too.
+#[inline(always)]
 #[tactic(auto, unfolding(crate::specs::Nearest::nearer_of))]
 fn nearer_of(place: Vertex, best: Option<PlacedLine>, line: PlacedLine) -> Option<PlacedLine>
     ensures { result ≡ nearer_of place best line }
