@@ -1,5 +1,5 @@
 -- What is on the left of a way: a sector of the map, or the void.
-use Rattle.std.proofs.Common.{◌≡◌, ℕ, ◌<◌, Bool, true, false, ◌&&◌, ◌||◌, not, List, [], ◌∷◌, length, Option, Some, None, refl, ap, ◌∙◌, subst}
+use Rattle.std.proofs.Common.{◌≡◌, ℕ, ◌<◌, Bool, true, false, ◌&&◌, ◌||◌, not, List, [], ◌∷◌, length, Option, Some, None, refl, sym, ap, ◌∙◌, subst}
 use Rattle.std.specs.List.{list_any, slice_get}
 use Rattle.std.specs.Option.{IfSome, option_map}
 use Rattle.std.specs.Prelude.{find, if◌then◌else◌, option_and_then}
@@ -13,9 +13,9 @@ use Rattle.map_plane.specs.Places.{placed_lines}
 use Rattle.map_plane.specs.declared.places.PlacedLine.{PlacedLine}
 use Rattle.map_tables.specs.Tables.{Tables}
 use Rattle.map_tables.specs.WellFormed.{HasSector, WellFormed}
-use Rattle.map_areas.proofs.Standing.{same_itself}
+use Rattle.map_areas.proofs.Standing.{same_itself, same_sector}
 use Rattle.map_areas.specs.Apart.{doubled, place_sum}
-use Rattle.map_areas.specs.Ways.{faces_left, is_left_of_way, is_same, left_faced, runs_along, sector_between, side_on_left}
+use Rattle.map_areas.specs.Ways.{faces_left, is_left_of_way, is_same, left_faced, runs_along, sector_along, sector_between, sector_on_right, side_on_left}
 
 -- ---- which it is
 
@@ -55,6 +55,12 @@ left_between m w h =
     or_right (list_any (faces_left m w (sector_between m w)) (placed_lines m)) (not (list_any (runs_along w) (placed_lines m)) && is_same (sector_between m w) (sector_between m w))
     (ap (λ b. not b && is_same (sector_between m w) (sector_between m w)) (none_along (runs_along w) (placed_lines m) h) ∙ same_itself (sector_between m w))
 
+-- it is what is round the way then
+means_same : (a b : Option ℕ) → is_same a b ≡ true → b ≡ a
+means_same None None h = refl
+means_same None (Some n) h = cc
+means_same (Some s) b h = same_sector s b h
+
 -- ---- that it is one of the map's
 
 side_here : (m : Tables) (k : ℕ) (o : Option Side) → WellFormed m → slice_get m.sides k ≡ o → IfSome (option_map (λ s. s.sector) o) (λ n. n < length m.sectors)
@@ -84,3 +90,12 @@ shown_here m p (Some l) fine = shown_line m p l (slice_get m.lines l.number) fin
 -- what the middle of a way belongs to
 pub between_here : (m : Tables) (w : PlacedLine) → WellFormed m → IfSome (sector_between m w) (λ n. n < length m.sectors)
 between_here m w fine = shown_here m (place_sum w.from w.to) (nearest (doubled (placed_lines m)) (place_sum w.from w.to)) fine
+
+-- ---- where no line is along the way, what is round it
+
+pub left_led : (m : Tables) (w : PlacedLine) (round : Option ℕ) → find (runs_along w) (placed_lines m) ≡ None → is_same (sector_on_right m w) round ≡ true
+    → WellFormed m → (is_left_of_way m w round ≡ true) × IfSome round (λ n. n < length m.sectors)
+left_led m w round none led fine =
+    let same : round ≡ sector_between m w =
+    means_same (sector_between m w) round (ap (λ (o : Option PlacedLine). is_same (sector_along m w o) round) (sym none) ∙ led) in
+    (ap (is_left_of_way m w) same ∙ left_between m w none, subst (λ (o : Option ℕ). IfSome o (λ n. n < length m.sectors)) (sym same) (between_here m w fine))

@@ -183,3 +183,22 @@ led_next m round e from ps i d lt h =
 pub led_last : (m : Tables) (round : Option ℕ) (e : PlacedLine) (from : Vertex) (ps : List Vertex) (i : ℕ) → length ps ≤ i
     → is_led m round e from (drop i ps) ≡ true → is_at from e.to ≡ false
 led_last m round e from ps i le h = led_apart m round e from e.to (ap (is_led m round e from) (sym (drop_all i ps le)) ∙ h)
+
+-- ---- what is on the right of its parts
+
+led_same : (m : Tables) (round : Option ℕ) (e : PlacedLine) (from to : Vertex) → is_led_to m round e from to ≡ true → is_same (sector_on_right m (way from to)) round ≡ true
+led_same m round e from to h =
+    (and_both (comes_first e from to && is_clear m (way from to)) (is_same (sector_on_right m (way from to)) round) h).1
+
+-- its next part
+pub same_next : (m : Tables) (round : Option ℕ) (e : PlacedLine) (from : Vertex) (ps : List Vertex) (i : ℕ) (d : Vertex) → i < length ps
+    → is_led m round e from (drop i ps) ≡ true → is_same (sector_on_right m (way from (get_or ps i d))) round ≡ true
+same_next m round e from ps i d lt h =
+    let p = get_or ps i d in
+    let two = and_both (is_stop m e p && is_led_to m round e from p) (is_led m round e p (drop (i + 1) ps)) (ap (is_led m round e from) (sym (drop_more ps i d lt)) ∙ h) in
+    led_same m round e from p (and_both (is_stop m e p) (is_led_to m round e from p) two.0).1
+
+-- its last part
+pub same_last : (m : Tables) (round : Option ℕ) (e : PlacedLine) (from : Vertex) (ps : List Vertex) (i : ℕ) → length ps ≤ i
+    → is_led m round e from (drop i ps) ≡ true → is_same (sector_on_right m (way from e.to)) round ≡ true
+same_last m round e from ps i le h = led_same m round e from e.to (ap (is_led m round e from) (sym (drop_all i ps le)) ∙ h)

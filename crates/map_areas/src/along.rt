@@ -6,7 +6,7 @@ ghost use Rattle.map_areas.specs.Bordered.{faces_sector, is_walled, leads};
 ghost use Rattle.map_areas.specs.Cuts.{IsLed, IsWalled};
 ghost use Rattle.map_areas.specs.Drawings.{IsCutOnBorder, IsUnderway, IsUnfaced, IsOnBorder, IsPaint, IsShared, IsSideOf, KeepsLines, KeepsWalls, side_on};
 ghost use Rattle.map_areas.specs.Drawn.{RefusesDrawing};
-ghost use Rattle.map_areas.specs.Ways.{is_left_of_way, sector_by_side, way};
+ghost use Rattle.map_areas.specs.Ways.{is_left_of_way, is_same, sector_by_side, sector_on_right, way};
 ghost use Rattle.map_plane.specs.Meeting.{is_at};
 ghost use Rattle.map_plane.specs.Places.{placed_lines};
 
@@ -243,12 +243,12 @@ impl Drawing {
         way: &PlacedLine,
     ) -> Result<(), AreaError>
         requires lines { ground.now.lines.items ≡ placed_lines map.now.tables }
-        requires doubled { ground.now.doubled.items ≡ doubled (placed_lines map.now.tables) }
         requires drawn { IsUnderway map.now.tables border.now paint.now.round self.old }
         requires paint { IsPaint map.now.tables paint.now }
         requires from { IsOnBorder border.now.edges.items way.now.from }
         requires to { IsOnBorder border.now.edges.items way.now.to }
         requires apart { is_at way.now.from way.now.to ≡ false }
+        requires led { is_same (sector_on_right map.now.tables way.now) paint.now.round ≡ true }
         ensures drawn { OnOk result
             (IsUnderway map.now.tables border.now paint.now.round self.new) }
         ensures walled { OnOk result (is_walled map.now.tables self.new.map.tables
@@ -257,7 +257,7 @@ impl Drawing {
             self.old.map.tables self.new.map.tables) }
         ensures refused { IfErr result (RefusesDrawing map.now.tables border.now.edges.items) }
     {
-        let outer = left_of_way(map, ground, way);
+        let outer = left_of_way(map, ground, way, paint.round);
         let v1 = self.vertex_at(map, border, paint.round, way.from)?;
         let v2 = self.vertex_at(map, border, paint.round, way.to)?;
         let (right, left) = self.add_sides(map, border, paint, outer)?;
@@ -283,6 +283,7 @@ impl Drawing {
         requires from { IsOnBorder border.now.edges.items way.now.from }
         requires to { IsOnBorder border.now.edges.items way.now.to }
         requires apart { is_at way.now.from way.now.to ≡ false }
+        requires led { is_same (sector_on_right map.now.tables way.now) paint.now.round ≡ true }
         ensures drawn { OnOk result
             (IsUnderway map.now.tables border.now paint.now.round self.new) }
         ensures walled { OnOk result (is_walled map.now.tables self.new.map.tables

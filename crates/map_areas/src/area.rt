@@ -24,6 +24,7 @@ use crate::border::{Border, border_of};
 use crate::drawing::{Drawing, drawing_of};
 use crate::error::AreaError;
 use crate::inside::find_empty;
+use crate::lists::placed_by_lists;
 use crate::polygon::polygon;
 use crate::ranges::is_area_in_range;
 use crate::round::sector_round;
@@ -31,7 +32,7 @@ use crate::sharing::Paint;
 use crate::ways::{Ground, ground_of};
 use lump_records::{Name8, Sector, Vertex};
 use map_commands::Command;
-use map_plane::{PlacedLine, placed_lines};
+use map_plane::PlacedLine;
 use map_tables::{Kind, Map};
 use std::alloc::Global;
 
@@ -81,6 +82,8 @@ fn draw(
     paint: &Paint,
     sector: Sector,
 ) -> Result<Drawing, AreaError>
+    requires vertices { ground.now.vertices.items ≡ map.now.tables.vertices }
+    requires records { ground.now.records.items ≡ map.now.tables.lines }
     requires lines { ground.now.lines.items ≡ placed_lines map.now.tables }
     requires doubled { ground.now.doubled.items ≡ doubled (placed_lines map.now.tables) }
     requires stops { All (IsOnBorder border.now.edges.items) border.now.stops.items }
@@ -96,10 +99,10 @@ fn draw(
     ensures refused { IfErr result (RefusesDrawing map.now.tables border.now.edges.items) }
 {
     let round = paint.round;
-    let mut drawing = drawing_of(alloc, map, border, round, sector)?;
+    let mut drawing = drawing_of(alloc, map, ground, border, round, sector)?;
     drawing.cut_lines(alloc, map, ground, border, round)?;
     drawing.add_stops(map, border, round)?;
-    let lines = placed_lines(alloc, &drawing.map)?;
+    let lines = placed_by_lists(alloc, &drawing.map, &drawing.vertices, &drawing.lines)?;
     drawing.draw_border(map, ground, border, paint, &lines)?;
     drawing.turn_inside(map, ground, border, paint, &lines)?;
     Ok(drawing)

@@ -13,7 +13,8 @@ ghost use Rattle.map_tables.specs.Ranges.{IsEdit, IsLine, IsSector, IsSide};
 
 use crate::border::Border;
 use crate::error::AreaError;
-use crate::lists::{lines_of, vertices_of};
+use crate::lists::copy_of;
+use crate::ways::Ground;
 use lump_records::{Line, Sector, Side, Vertex};
 use map_commands::Command;
 use map_plane::is_at;
@@ -34,11 +35,14 @@ pub(crate) struct Drawing {
 pub(crate) fn drawing_of(
     alloc: Global,
     map: &Map,
+    ground: &Ground,
     border: &Border,
     round: Option<u16>,
     sector: Sector,
 ) -> Result<Drawing, AreaError>
-    requires { IsSector sector }
+    requires vertices { ground.now.vertices.items ≡ map.now.tables.vertices }
+    requires lines { ground.now.records.items ≡ map.now.tables.lines }
+    requires sector { IsSector sector }
     ensures drawn { IfOk result (IsUnderway map.now.tables border.now round) }
     ensures room { OnOk result (length map.now.tables.sectors ≤ 4095) }
     ensures refused { IfErr result (RefusesDrawing map.now.tables border.now.edges.items) }
@@ -50,8 +54,8 @@ pub(crate) fn drawing_of(
     commands.push(Command::Edit(edit))?;
     Ok(Drawing {
         map: copy,
-        vertices: vertices_of(alloc, map)?,
-        lines: lines_of(alloc, map)?,
+        vertices: copy_of(alloc, &ground.vertices)?,
+        lines: copy_of(alloc, &ground.records)?,
         commands,
     })
 }

@@ -8,19 +8,19 @@ ghost use Rattle.map_plane.specs.Places.{placed, placed_lines};
 ghost use Rattle.map_tables.specs.WellFormed.{WellFormed};
 
 use crate::border::{sum, twice};
-use crate::lists::vertices_of;
+use crate::lists::{lines_of, placed_by_lists, vertices_of};
 use lump_records::{Line, Vertex};
 use map_plane::{
-    PlacedLine, boxes_meet, crosses, ends_at, is_on, nearest, placed_lines, sector_shown,
-    spans_meet,
+    PlacedLine, boxes_meet, crosses, ends_at, is_on, nearest, sector_shown, spans_meet,
 };
 use map_tables::Map;
 use std::alloc::{AllocError, Global};
 
-/// The vertices and the lines of a map, and the lines at twice the size.
+/// The vertices and the lines of a map, its lines with the places of their ends, and these at twice the size.
 #[derive(Drop)]
 pub(crate) struct Ground {
     pub vertices: Vec<Vertex>,
+    pub records: Vec<Line>,
     pub lines: Vec<PlacedLine>,
     pub doubled: Vec<PlacedLine>,
 }
@@ -28,15 +28,18 @@ pub(crate) struct Ground {
 /// The vertices and the lines of the map, as they are.
 pub(crate) fn ground_of(alloc: Global, map: &Map) -> Result<Ground, AllocError>
     ensures vertices { IfOk result (λ ground. ground.vertices.items ≡ map.now.tables.vertices) }
+    ensures records { IfOk result (λ ground. ground.records.items ≡ map.now.tables.lines) }
     ensures lines { IfOk result (λ ground. ground.lines.items ≡ placed_lines map.now.tables) }
     ensures doubled { IfOk result (λ ground.
         ground.doubled.items ≡ doubled (placed_lines map.now.tables)) }
 {
     let vertices = vertices_of(alloc, map)?;
-    let lines = placed_lines(alloc, map)?;
+    let records = lines_of(alloc, map)?;
+    let lines = placed_by_lists(alloc, map, &vertices, &records)?;
     let doubled = twice(alloc, &lines)?;
     Ok(Ground {
         vertices,
+        records,
         lines,
         doubled,
     })
@@ -253,16 +256,21 @@ pub(crate) fn is_left_of_way(
     }
 }
 
-/// What is on the left of the way: what the first line along it faces there, or what its middle belongs to.
-pub(crate) fn left_of_way(map: &Map, ground: &Ground, way: &PlacedLine) -> Option<u16>
+/// What is on the left of the way: what the first line along it faces there, or, where no line is, what is round it.
+pub(crate) fn left_of_way(
+    map: &Map,
+    ground: &Ground,
+    way: &PlacedLine,
+    round: Option<u16>,
+) -> Option<u16>
     requires lines { ground.now.lines.items ≡ placed_lines map.now.tables }
-    requires doubled { ground.now.doubled.items ≡ doubled (placed_lines map.now.tables) }
+    requires led { is_same (sector_on_right map.now.tables way.now) round ≡ true }
     requires well_formed { WellFormed map.now.tables }
     ensures left { is_left_of_way map.now.tables way.now result ≡ true }
     ensures sector { IfSome result (λ s. s < length map.now.tables.sectors) }
 {
     match line_along(&ground.lines, way) {
         Some(line) => left_faced(map, way, &line),
-        None => sector_between(map, ground, way),
+        None => round,
     }
 }

@@ -4,8 +4,12 @@ use Rattle.std.specs.Prelude.{find}
 use Rattle.map_plane.specs.Places.{placed_lines}
 use Rattle.map_plane.specs.declared.places.PlacedLine.{PlacedLine}
 use Rattle.map_areas.specs.Ways.{is_left_of_way, runs_along}
-use Rattle.map_areas.proofs.Facing.{between_here, left_along, left_between, left_here}
+use Rattle.map_tables.specs.Tables.{Tables}
+use Rattle.map_areas.proofs.Facing.{left_along, left_here, left_led}
 use Rattle.map_areas.proofs.ways.left_of_way.Goals as goal
+
+none_found : (m : Tables) (w : PlacedLine) (ls : List PlacedLine) → ls ≡ placed_lines m → None ≡ find (runs_along w) ls → find (runs_along w) (placed_lines m) ≡ None
+none_found m w ls same e = ap (λ (ls : List PlacedLine). find (runs_along w) ls) (sym same) ∙ sym e
 
 pub returns-in-Some-clause-left : goal.returns-in-Some-clause-left
 returns-in-Some-clause-left c =
@@ -24,11 +28,10 @@ pub returns-in-None-clause-left : goal.returns-in-None-clause-left
 returns-in-None-clause-left c =
     let m = c.args.map.now.tables in
     let w = c.args.way.now in
-    let found : find (runs_along w) (placed_lines m) ≡ None =
-    ap (λ (ls : List PlacedLine). find (runs_along w) ls) (sym (c.deref.ensures.value ∙ c.requires.lines)) ∙ sym c.in-None.ensures in
-    ap (is_left_of_way m w) c.sector_between.ensures ∙ left_between m w found
+    (left_led m w c.args.round (none_found m w c.deref.result.now (c.deref.ensures.value ∙ c.requires.lines) c.in-None.ensures) c.requires.led c.requires.well_formed).0
 
 pub returns-in-None-clause-sector : goal.returns-in-None-clause-sector
 returns-in-None-clause-sector c =
     let m = c.args.map.now.tables in
-    subst (λ o. IfSome o (λ n. n < length m.sectors)) (sym c.sector_between.ensures) (between_here m c.args.way.now c.requires.well_formed)
+    let w = c.args.way.now in
+    (left_led m w c.args.round (none_found m w c.deref.result.now (c.deref.ensures.value ∙ c.requires.lines) c.in-None.ensures) c.requires.led c.requires.well_formed).1

@@ -7,8 +7,8 @@ use Rattle.map_plane.specs.Meeting.{is_at}
 use Rattle.map_plane.specs.declared.places.PlacedLine.{PlacedLine}
 use Rattle.map_areas.specs.Bordered.{are_walled, is_led, is_walled}
 use Rattle.map_areas.specs.Drawings.{IsOnBorder}
-use Rattle.map_areas.specs.Ways.{way}
-use Rattle.map_areas.proofs.OnBorder.{led_last, led_next}
+use Rattle.map_areas.specs.Ways.{is_same, sector_on_right, way}
+use Rattle.map_areas.proofs.OnBorder.{led_last, led_next, same_last, same_next}
 use Rattle.map_areas.proofs.Walled.{walls_then}
 use Rattle.map_areas.proofs.drawing.Drawing.draw_edge.Goals as goal
 
@@ -80,4 +80,27 @@ draw_along-requires-2-clause-apart c =
     let i = c.loop-place.place-index in
     ap (λ (w : PlacedLine). is_at w.from w.to) c.way-2.ensures
     ∙ led_last m round e c.loop-place.at places i c.loop-place-test.false
+    (ap (λ (ps : List Vertex). is_led m round e c.loop-place.at (drop i ps)) c.deref-place-items.ensures.value ∙ c.loop-place.invariant.led)
+
+pub draw_along-requires-clause-led : goal.draw_along-requires-clause-led
+draw_along-requires-clause-led c =
+    let m = c.args.map.now.tables in
+    let round = c.args.paint.now.round in
+    let e = c.args.cut.now.edge in
+    let places = c.deref-place-items.result.now in
+    let i = c.loop-place.place-index in
+    let origin : Vertex = record { x = pos 0; y = pos 0 } in
+    ap (λ (w : PlacedLine). is_same (sector_on_right m w) round) c.way.ensures
+    ∙ same_next m round e c.loop-place.at places i origin c.loop-place-test.true
+    (ap (λ (ps : List Vertex). is_led m round e c.loop-place.at (drop i ps)) c.deref-place-items.ensures.value ∙ c.loop-place.invariant.led)
+
+pub draw_along-requires-2-clause-led : goal.draw_along-requires-2-clause-led
+draw_along-requires-2-clause-led c =
+    let m = c.args.map.now.tables in
+    let round = c.args.paint.now.round in
+    let e = c.args.cut.now.edge in
+    let places = c.deref-place-items.result.now in
+    let i = c.loop-place.place-index in
+    ap (λ (w : PlacedLine). is_same (sector_on_right m w) round) c.way-2.ensures
+    ∙ same_last m round e c.loop-place.at places i c.loop-place-test.false
     (ap (λ (ps : List Vertex). is_led m round e c.loop-place.at (drop i ps)) c.deref-place-items.ensures.value ∙ c.loop-place.invariant.led)
