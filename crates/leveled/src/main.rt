@@ -43,6 +43,19 @@ fn touch_stack(rt: &HostRuntime) {
     let _ = rt.stderr().write(&pages[..0]);
 }
 
+// How large a block is allocated and given back at the start, in bytes.
+const KEPT: usize = 8_000_000;
+
+// Allocates a large block, and gives it back untouched. glibc asks the system anew for each block that is larger than
+// all that were given back before, and clears its pages; smaller ones it takes from a heap, which it keeps. No compiler
+// knows that no byte of the block is read, so none leaves it out. Without memory for it all goes on as before.
+#[inline(never)]
+fn keep_heap(rt: &HostRuntime) {
+    if let Ok(block) = Vec::<u8>::with_capacity(rt.alloc(), KEPT) {
+        let _ = rt.stderr().write(&block);
+    }
+}
+
 // Reports lack of memory. If standard error can't be written, that is ignored.
 fn complain_of_memory(rt: &HostRuntime) {
     let _ = eprintln!(rt; "leveled: 31 Memory");
@@ -275,6 +288,7 @@ fn run(rt: &HostRuntime) -> u8
     ensures { result ≤ 3 }
 {
     touch_stack(rt);
+    keep_heap(rt);
     let _held = fill_closed_streams(rt);
     let read = match env::args(rt) {
         Ok(read) => read,
