@@ -20,6 +20,7 @@ use cli_files::{Content, Hold, NotedFile, content_in};
 use cli_print::{Choice, Wanted};
 use cli_refusals::{Causes, Refusal};
 use cli_requests::{build, check, check_wad, dump, dump_wad, lint, lint_wad, picture, picture_wad};
+use cli_sources::WadReader;
 use std::io::Write;
 use std::os::unix::fs::FileExt;
 use std::rt::Files;
@@ -52,13 +53,10 @@ where
 {
     let mut file = open_read(rt, path, why)?;
     match content_in(&file) {
-        Ok(Content::Wad) => return check_wad(
-            rt.alloc(),
-            &mut file.file,
-            name,
-            writer,
-            &mut why.file,
-        ),
+        Ok(Content::Wad) => {
+            let mut reader = WadReader::of_level(rt.alloc(), &mut file.file, name);
+            return check_wad(rt.alloc(), &mut reader, name, writer, &mut why.file);
+        }
         Ok(Content::Text | Content::Picture) => return check_script(
             rt,
             path,
@@ -107,7 +105,10 @@ where
 {
     let mut file = open_read(rt, path, why)?;
     match content_in(&file) {
-        Ok(Content::Wad) => return lint_wad(rt, &mut file.file, name, iwad, choice, writer, why),
+        Ok(Content::Wad) => {
+            let mut reader = WadReader::of_level(rt.alloc(), &mut file.file, name);
+            return lint_wad(rt, &mut reader, name, iwad, choice, writer, why);
+        }
         Ok(Content::Text | Content::Picture) => {
             return lint_script(
                 rt,
@@ -157,15 +158,18 @@ where
 {
     let mut file = open_read(rt, path, why)?;
     match content_in(&file) {
-        Ok(Content::Wad) => return dump_wad(
-            rt.alloc(),
-            &mut file.file,
-            names,
-            is_exact,
-            writer,
-            faults,
-            &mut why.file,
-        ),
+        Ok(Content::Wad) => {
+            let mut reader = WadReader::of_levels(rt.alloc(), &mut file.file, names);
+            return dump_wad(
+                rt.alloc(),
+                &mut reader,
+                names,
+                is_exact,
+                writer,
+                faults,
+                &mut why.file,
+            );
+        }
         Ok(Content::Text | Content::Picture) => return dump_script(
             rt,
             path,
@@ -209,7 +213,10 @@ where
 {
     let mut file = open_read(rt, path, why)?;
     match content_in(&file) {
-        Ok(Content::Wad) => return picture_wad(rt.alloc(), rt, &mut file.file, wanted, writer, why),
+        Ok(Content::Wad) => {
+            let mut reader = WadReader::of_level(rt.alloc(), &mut file.file, wanted.map);
+            return picture_wad(rt.alloc(), rt, &mut reader, wanted, writer, why);
+        }
         Ok(Content::Text | Content::Picture) => return picture_script(
             rt,
             path,

@@ -14,6 +14,7 @@ use Rattle.wad_file.specs.Lumps.{Lump, lump_at, wad_size}
 use Rattle.wad_file.specs.Placed.{AtHand, content_size, placed_bytes}
 use Rattle.wad_file.specs.declared.entry.Entry.{Entry}
 use Rattle.wad_file.proofs.PlacedLemmas.{placed_bytes-append}
+use Rattle.cli_sources.proofs.Taking.{takes_on}
 use Rattle.wad_rebuild.specs.Held.{StandsInFor, entry_in, is_drawn_name, kept_at, kept_content, kept_lumps, part_of_entry}
 use Rattle.cli_rebuild.specs.Holding.{AddsHeld, AreHeldIn, IsHeldFrom, IsHeldLump, IsHeldPart, sizes_in}
 
@@ -48,19 +49,9 @@ held_more directory n old new e a is p =
         sym (get_or-append_seam old.lumps p.lump [] d) ∙ ap (λ (j : ℕ). get_or (old.lumps ++ p.lump ∷ []) j d) s ∙ ap (λ (ls : List Lump). get_or ls k d) (sym p.put.lumps_are) in
         subst (IsHeldLump (entry_in directory k)) there (subst (λ (x : Entry). IsHeldLump x p.lump) (is ∙ ap (entry_in directory) n_is) p.is)
 
--- a lump that fits is taken
-pub takes_one :
-    (d : Draft) (l : Lump) (len : ℕ) (so : Bool) → Takes d [] → len ≡ length l.bytes → so ≡ nat_le (wad_size d.lumps + length d.begun + len + 16) 4294967295 → so ≡ true → Takes d (l ∷ [])
-takes_one d l len so t long is fits =
-    let le : wad_size d.lumps + length d.begun + len + 16 ≤ 4294967295 = leb-true _ _ (sym is ∙ fits) in
-    let n = length-append l.bytes [] in
-    record { ready = t.ready; fits = omega (arith, le, long, n) }
-
+-- a lump of an entry is added
 pub adds_one : (e : Entry) (old new : Draft) (l : Lump) → l.name ≡ e.name → IsHeldPart e l.bytes → Takes old (l ∷ []) → Puts old new (l ∷ []) → AddsHeld e old new
-adds_one e old new l name part t p =
-    let g = p.grows in
-    let f = t.fits in
-    record { lump = l; is = record { name = name; part = part }; put = p; takes = record { ready = p.ready; fits = omega (arith, g, f) } }
+adds_one e old new l name part t p = record { lump = l; is = record { name = name; part = part }; put = p; takes = takes_on old new l t p }
 
 -- ---- the WAD in memory
 module _ (kind directory : List ℕ) (n : ℕ) (wad : List ℕ) (h : IsHeldFrom kind directory n wad) where

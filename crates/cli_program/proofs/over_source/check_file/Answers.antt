@@ -1,3 +1,4 @@
+use Rattle.std.proofs.Common.{None}
 use Rattle.std.proofs.KnownBytes.{Keeps-refl}
 use Rattle.cli_program.proofs.Scripted.{some_of_maps, some_of_script, some_of_wad}
 use Rattle.cli_program.proofs.Sources.{of_some_maps}
@@ -5,7 +6,7 @@ use Rattle.cli_scripts.specs.ScriptCanvases.{maps_with_origins}
 use Rattle.cli_program.proofs.over_source.check_file.Goals as goal
 
 pub returns-in-Ok-Wad-clause-found : goal.returns-in-Ok-Wad-clause-found
-returns-in-Ok-Wad-clause-found g c = some_of_wad maps_with_origins _ _ _ _ _ _ _ _ _ _ c.check_wad.ensures.found (Keeps-refl (g.F.Write.contents c.args.faults.now))
+returns-in-Ok-Wad-clause-found g c = some_of_wad maps_with_origins _ None None _ _ _ _ _ _ _ c.check_wad.ensures.found (Keeps-refl (g.F.Write.contents c.args.faults.now))
 
 pub returns-in-Ok-Text-clause-found : goal.returns-in-Ok-Text-clause-found
 returns-in-Ok-Text-clause-found g c = some_of_script maps_with_origins _ _ _ _ _ _ _ _ _ _ c.check_script.ensures.found

@@ -1,3 +1,4 @@
+use Rattle.std.proofs.Common.{None}
 use Rattle.std.proofs.KnownBytes.{Keeps-refl}
 use Rattle.cli_program.proofs.DumpedLemmas.{some_of_told}
 use Rattle.cli_program.proofs.Scripted.{some_of_maps, some_of_script}
@@ -6,7 +7,7 @@ use Rattle.cli_scripts.specs.ScriptCanvases.{maps_alone}
 use Rattle.cli_program.proofs.over_source.dump_file.Goals as goal
 
 pub returns-in-Ok-Wad-clause-dumped : goal.returns-in-Ok-Wad-clause-dumped
-returns-in-Ok-Wad-clause-dumped g c = some_of_told maps_alone _ _ _ _ _ _ _ _ _ _ c.dump_wad.ensures.dumped
+returns-in-Ok-Wad-clause-dumped g c = some_of_told maps_alone _ None None _ _ _ _ _ _ _ c.dump_wad.ensures.dumped
 
 pub returns-in-Ok-Text-clause-dumped : goal.returns-in-Ok-Text-clause-dumped
 returns-in-Ok-Text-clause-dumped g c = some_of_script maps_alone _ _ _ _ _ _ _ _ _ _ c.dump_script.ensures.dumped

@@ -1,0 +1,236 @@
+//! A WAD in a file for a request over some of its levels, which reads no lump of another one.
+ghost use Rattle.std.specs.Prelude.{◌+◌, ◌≤◌, [], IfSome, length};
+ghost use Rattle.wad_file.specs.Drafts.{Takes};
+
+use std::alloc::Global;
+use std::fs::OpenFile;
+use std::io::{self, Read};
+use std::os::unix::fs::FileExt;
+use wad_file::{Entry, Wad, WadWriter, long_at};
+use wad_levels::{LevelEntries, last_called, levels_in};
+
+// The most bytes of a WAD.
+const MOST: u64 = 0xffff_ffff;
+
+/// The WAD in an open file as a request over some of its levels reads it.
+#[derive(Drop)]
+pub enum WadReader<'a, F> {
+    /// A WAD in memory with the names of all lumps of the file and the lumps of these levels; its other lumps are
+    /// empty. So many of its bytes are given.
+    Levels { bytes: Vec<u8>, given: usize },
+    /// All bytes of the file.
+    Whole(&'a mut F),
+}
+
+// Gives the bytes behind so many of them, as many as fit, and returns how many bytes are given then.
+fn give(bytes: &[u8], given: usize, into: &mut [u8]) -> usize
+    requires { given ≤ length bytes.now }
+    ensures behind { given ≤ result }
+    ensures within { result ≤ length bytes.now }
+    ensures fits { result ≤ given + length into.new }
+{
+    let rest = &bytes[given..];
+    let count = rest.len().min(into.len());
+    into[..count].copy_from_slice(&rest[..count]);
+    given + count
+}
+
+impl<F: Read> Read for WadReader<'_, F> {
+    fn read(&mut self, buf: &mut [u8]) -> io::Result<usize> {
+        match self {
+            WadReader::Levels { bytes, given } => {
+                if bytes.len() < *given {
+                    return Ok(0);
+                }
+                let now = give(bytes, *given, buf);
+                let count = now - *given;
+                *given = now;
+                Ok(count)
+            }
+            WadReader::Whole(file) => file.read(buf),
+        }
+    }
+}
+
+// How many bytes a regular file has.
+fn length_of<F: OpenFile>(file: &F) -> Option<u64> {
+    match file.metadata() {
+        Ok(facts) if facts.is_file() => Some(facts.len()),
+        _ => None,
+    }
+}
+
+// The bytes of a part of the file, if it has `len` bytes and the part is among them.
+fn part_of<F: FileExt>(alloc: Global, file: &F, len: u64, at: u32, size: u64) -> Option<Vec<u8>> {
+    if u64::from(at) > len || len - u64::from(at) < size {
+        return None;
+    }
+    let mut part = vec![in alloc; 0; size as usize].ok()?;
+    file.read_exact_at(&mut part, u64::from(at)).ok()?;
+    Some(part)
+}
+
+// The head and the directory of the WAD in a file of `len` bytes, as a WAD of its own: it has the entries as they are.
+fn entries_of<F: FileExt>(alloc: Global, file: &F, len: u64) -> Option<Vec<u8>> {
+    let head = part_of(alloc, file, len, 0, 12)?;
+    if head.len() < 12 {
+        return None;
+    }
+    let size = 16 * u64::from(long_at(&head, 4));
+    let directory = part_of(alloc, file, len, long_at(&head, 8), size)?;
+    let mut bytes = Vec::with_capacity(alloc, directory.len().saturating_add(12)).ok()?;
+    bytes.extend_from_slice(&head[..8]).ok()?;
+    bytes.extend_from_slice(&[12, 0, 0, 0]).ok()?;
+    bytes.extend_from_slice(&directory).ok()?;
+    Some(bytes)
+}
+
+// Whether the k-th entry is of a lump of one of the levels.
+fn is_asked(levels: &[LevelEntries], k: u32) -> bool {
+    levels
+        .iter()
+        .any(|level| level.marker < k && k < level.lumps_end)
+}
+
+// How many bytes the lumps of the levels have.
+fn size_of(wad: &Wad<'_>, levels: &[LevelEntries]) -> u64 {
+    let mut sum: u64 = 0;
+    for k in 0..wad.count() {
+        if is_asked(levels, k) {
+            sum = sum.saturating_add(u64::from(wad.entry(k).size));
+        }
+    }
+    sum
+}
+
+// Appends the lump of an entry, empty unless it is asked for. None if it isn't to be had.
+fn put_lump<F: FileExt>(
+    alloc: Global,
+    file: &F,
+    len: u64,
+    entry: Entry,
+    is_asked: bool,
+    writer: &mut WadWriter,
+) -> Option<()>
+    requires { Takes writer.old [] }
+    ensures { IfSome result (λ _. Takes writer.new []) }
+{
+    let size = if is_asked { u64::from(entry.size) } else { 0 };
+    let at = if is_asked { entry.at } else { 0 };
+    let part = part_of(alloc, file, len, at, size)?;
+    if !writer.has_room(part.len(), MOST) {
+        return None;
+    }
+    match writer.push(entry.name, &part) {
+        Ok(()) => Some(()),
+        Err(_) => None,
+    }
+}
+
+// Appends the lumps of all entries.
+fn put_lumps<F: FileExt>(
+    alloc: Global,
+    file: &F,
+    len: u64,
+    wad: &Wad<'_>,
+    levels: &[LevelEntries],
+    writer: &mut WadWriter,
+) -> Option<()>
+    requires { Takes writer.old [] }
+    ensures { IfSome result (λ _. Takes writer.new []) }
+{
+    for k in 0..wad.count() {
+        let entry = wad.entry(k);
+        match put_lump(alloc, file, len, entry, is_asked(levels, k), writer) {
+            Some(()) => {}
+            None => return None,
+        }
+    }
+    Some(())
+}
+
+// The WAD with the names of these entries and the lumps of the levels, in a file of `len` bytes.
+fn bytes_of<F: FileExt>(
+    alloc: Global,
+    file: &F,
+    len: u64,
+    wad: &Wad<'_>,
+    levels: &[LevelEntries],
+) -> Option<Vec<u8>> {
+    let count = wad.count();
+    let size = size_of(wad, levels);
+    if size > len {
+        return None;
+    }
+    let room = (size as usize).saturating_add(12 + 16 * count as usize);
+    let mut writer = match WadWriter::begin(alloc, room, count as usize) {
+        Ok(writer) => writer,
+        Err(_) => return None,
+    };
+    match put_lumps(alloc, file, len, wad, levels, &mut writer) {
+        Some(()) => {}
+        None => return None,
+    }
+    match writer.finish(alloc, wad.kind()) {
+        Ok(bytes) => Some(bytes),
+        Err(_) => None,
+    }
+}
+
+// The last of the levels with each of the names.
+fn asked_in(alloc: Global, wad: &Wad<'_>, names: &[&str]) -> Option<Vec<LevelEntries>> {
+    let levels = match levels_in(alloc, wad) {
+        Ok(levels) => levels,
+        Err(_) => return None,
+    };
+    let mut asked = Vec::new(alloc);
+    for name in names {
+        if let Some(level) = last_called(wad, &levels, name.as_bytes()) {
+            asked.push(level).ok()?;
+        }
+    }
+    Some(asked)
+}
+
+// The WAD with the names of all lumps of the file and the lumps of the levels with these names.
+fn levels_of<F: FileExt + OpenFile>(alloc: Global, file: &F, names: &[&str]) -> Option<Vec<u8>> {
+    let len = length_of(file)?;
+    let entries = entries_of(alloc, file, len)?;
+    let wad = Wad::read(&entries).ok()?;
+    let asked = asked_in(alloc, &wad, names)?;
+    bytes_of(alloc, file, len, &wad, &asked)
+}
+
+impl<'a, F: FileExt + OpenFile> WadReader<'a, F> {
+    // Reads of the file the lumps of the levels with these names.
+    fn of(alloc: Global, file: &'a mut F, names: &[&str]) -> Self {
+        match levels_of(alloc, &*file, names) {
+            Some(bytes) => WadReader::Levels { bytes, given: 0 },
+            None => WadReader::Whole(file),
+        }
+    }
+
+    /// Reads of the file the lumps of the level with the name, or all of it if there is none. What can't be read so,
+    /// since it isn't a regular file with a WAD, or the lumps don't stand in it, or for lack of memory, is read whole.
+    pub fn of_level(alloc: Global, file: &'a mut F, name: Option<&str>) -> Self {
+        match name {
+            Some(name) => WadReader::of(alloc, file, &[name]),
+            None => WadReader::Whole(file),
+        }
+    }
+
+    /// Does the same with the levels that have the names, or with all of the file if there are none.
+    pub fn of_levels(alloc: Global, file: &'a mut F, names: &[String]) -> Self {
+        if names.is_empty() {
+            return WadReader::Whole(file);
+        }
+        match names
+            .iter()
+            .map(|name| name.as_str())
+            .collect::<Vec<&str>>(alloc)
+        {
+            Ok(names) => WadReader::of(alloc, file, &names),
+            Err(_) => WadReader::Whole(file),
+        }
+    }
+}
