@@ -1,9 +1,10 @@
 pub mod Accepted
-pub mod CommandWords
-pub mod Complete
+pub mod Commands
+pub mod Counts
 pub mod Cutting
 pub mod Drawing
 pub mod Lines
+pub mod LowFaults
 pub mod NumbersBack
 pub mod Numerals
 pub mod Padding

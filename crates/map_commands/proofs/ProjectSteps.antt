@@ -18,7 +18,7 @@ use Rattle.map_tables.specs.Tables.{Tables, empty_tables, part_len}
 use Rattle.map_tables.specs.Tables as of_one
 use Rattle.map_tables.proofs.ProjectLemmas.{body_len_with, current_of, with_current_of}
 use Rattle.map_commands.specs.declared.command.Command.{Command}
-use Rattle.map_commands.specs.declared.command.Command.TheVariants.{Name, Edit, Room, Split}
+use Rattle.map_commands.specs.declared.command.Command.TheVariants.{Name}
 use Rattle.map_commands.specs.declared.error.CommandError.{CommandError}
 use Rattle.map_commands.specs.declared.error.CommandError.TheVariants.{NotACommand, OutOfRange, NoVertex, NoSector, NoSide, NoLine, NoThing, InUse, SameEnds, PlaceTaken, TwoSidedWithoutLeft, TableFull, LineTooLong, ProjectFull, BadName, TooManyMaps, MapNameTaken, NoSuchMap, CurrentMap, OutOfMemory}
 use Rattle.map_commands.specs.declared.project.command.ProjectCommand.{ProjectCommand}
@@ -28,8 +28,9 @@ use Rattle.map_commands.specs.ProjectCommands.{InProjectRange}
 use Rattle.map_commands.specs.ProjectReadiness.{CanCommit, RefusesStep, project_growth_of, project_need_of}
 use Rattle.map_commands.specs.ProjectStep.{project_after, current_faults, map_faults, naming_faults, project_number_of, step}
 use Rattle.map_commands.specs.Step as step_one
-use Rattle.map_commands.proofs.Steps as steps
-use Rattle.map_commands.proofs.Steps.{code_is_low, least-none, least-some}
+use Rattle.map_commands.proofs.Commands as of_each
+use Rattle.map_commands.proofs.Commands.{code_is_low}
+use Rattle.map_commands.proofs.Steps.{least-none, least-some}
 
 -- ---- The least code
 
@@ -92,9 +93,7 @@ one-of-two false u i j k e h g = let is = alone u j k e in omega (arith, is)
 
 naming-low : (p : ProjectMaps) (c : Command) (k : ℕ) → least (naming_faults p c) ≡ Some k → k ≤ 19
 naming-low p (Name name) k e = let is = alone _ 17 k e in omega (arith, is)
-naming-low p (Edit e) k h = absurd cc
-naming-low p (Room r) k e = absurd cc
-naming-low p (Split s) k e = absurd cc
+naming-low p c k e = absurd cc
 
 maps-low : (p : ProjectMaps) (c : ProjectCommand) (k : ℕ) → least (map_faults p c) ≡ Some k → k ≤ 19
 maps-low p (Current c) k e = naming-low p c k e
@@ -170,7 +169,7 @@ edit-fullness v c cap fits =
     let growth = step_one.growth_of (step_one.need_of c) in
     with-others cap (cap - o) o (of_one.body_len_of_one w.tables) (of_one.body_len_of_one v.tables + growth) (body_len (project_after (project_of v) (Current c))) (old + growth)
     (omega (arith, fits, part)) (omega (arith, part, whole, new)) (omega (arith, part))
-    (steps.fullness v.tables c (cap - o) (omega (arith, fits, part)))
+    (of_each.fullness v.tables c (cap - o) (omega (arith, fits, part)))
 
 selected-len : (ms : List Tables) (m : Tables) (t : Bool) → part_len m ≡ 18 → 2 + sum_by part_len (cond t ms (ms ++ m ∷ [])) ≡ 2 + sum_by part_len ms + cond t 0 18
 selected-len ms m true e = omega arith

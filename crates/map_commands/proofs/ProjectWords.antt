@@ -6,8 +6,8 @@ use Rattle.std.proofs.lemmas.Bool.{le-ltb, ltb-false}
 use Rattle.lump_records.specs.declared.records.Name8.{Name8}
 use Rattle.lump_records.specs.Names.{IsNamed, is_marker, name_of, name_text}
 use Rattle.map_commands.specs.declared.error.CommandError.{CommandError}
-use Rattle.map_commands.specs.declared.keywords.Head.{Head}
-use Rattle.map_commands.specs.declared.keywords.Head.TheVariants as head
+use Rattle.map_commands.specs.declared.grammar.Head.{Head}
+use Rattle.map_commands.specs.declared.grammar.Head.TheVariants as head
 use Rattle.map_commands.specs.declared.project.command.MapHead.{MapHead}
 use Rattle.map_commands.specs.declared.project.command.MapHead.TheVariants as map_head
 use Rattle.map_commands.specs.declared.project.command.ProjectCommand.{ProjectCommand}
@@ -17,32 +17,18 @@ use Rattle.map_commands.specs.Grammar as of_one_map
 use Rattle.map_commands.specs.Places.{Named, places_fault}
 use Rattle.map_commands.specs.ProjectCommands.{InProjectRange, map_word, project_spelling, project_words_of}
 use Rattle.map_commands.specs.ProjectGrammar.{project_command_fault, fault_by_head, project_fault_of, map_head_of}
-use Rattle.map_commands.specs.Spelling as spell_one_map
 use Rattle.map_commands.specs.Words.{parts}
 use Rattle.map_commands.proofs.Accepted.{all-read, marker-ok, next}
-use Rattle.map_commands.proofs.CommandWords as words_of_one_map
-use Rattle.map_commands.proofs.Complete as complete_of_one_map
+use Rattle.map_commands.proofs.Commands as proved_of_one_map
 use Rattle.map_commands.proofs.Lines.{join-parts}
 use Rattle.map_commands.proofs.Wordings.{AreTexts, IsText, join-short, marker-is-text, parts-join}
 
 -- ---- First words
 
 -- the first words of the commands of one map are none behind which a map is named
-other-head : (h : Head) → map_head_of (spell_one_map.head_word h) ≡ None
+other-head : (h : Head) → map_head_of (of_one_map.head_word h) ≡ None
 other-head head.Name = refl
-other-head head.Vertex = refl
-other-head head.Sector = refl
-other-head head.Side = refl
-other-head head.Line = refl
-other-head head.Thing = refl
-other-head head.MoveVertex = refl
-other-head head.SetSector = refl
-other-head head.SetSide = refl
-other-head head.SetLine = refl
-other-head head.SetThing = refl
-other-head head.Drop = refl
-other-head head.Room = refl
-other-head head.Split = refl
+other-head h = refl
 
 -- the first word behind which a command names a map
 abbrev head_in : ProjectCommand → Option MapHead
@@ -59,7 +45,7 @@ second [] = []
 second (w ∷ ws) = first ws
 
 first-word : (c : ProjectCommand) → map_head_of (first (project_words_of c)) ≡ head_in c
-first-word (Current c) = other-head (spell_one_map.head_for c)
+first-word (Current c) = other-head (of_one_map.head_for c)
 first-word (SelectMap name) = refl
 first-word (DropMap name) = refl
 
@@ -101,9 +87,9 @@ named-accepted h name is =
 -- the line of a command in range has no fault
 pub project_spelling-accepted : (c : ProjectCommand) → InProjectRange c → project_fault_of (project_spelling c) ≡ None
 project_spelling-accepted (Current c) h =
-    as-one-map (spell_one_map.spelling c) (spell_one_map.head_word (spell_one_map.head_for c))
-    (spell_one_map.words_behind c) (words_of_one_map.parts-spelling c h) (other-head (spell_one_map.head_for c))
-    ∙ words_of_one_map.spelling-accepted c h
+    as-one-map (of_one_map.spelling c) (of_one_map.head_word (of_one_map.head_for c))
+    (of_one_map.words_behind c) (proved_of_one_map.parts-spelling c h) (other-head (of_one_map.head_for c))
+    ∙ proved_of_one_map.spelling-accepted c h
 project_spelling-accepted (SelectMap name) h = named-accepted map_head.Select name h
 project_spelling-accepted (DropMap name) h = named-accepted map_head.Drop name h
 
@@ -111,7 +97,7 @@ project_spelling-accepted (DropMap name) h = named-accepted map_head.Drop name h
 
 -- the parts of a command's line are its words
 parts-spelling : (c : ProjectCommand) → InProjectRange c → parts (project_spelling c) ≡ project_words_of c
-parts-spelling (Current c) h = words_of_one_map.parts-spelling c h
+parts-spelling (Current c) h = proved_of_one_map.parts-spelling c h
 parts-spelling (SelectMap name) h = parts-join (map_word map_head.Select) (name_text name ∷ []) (named-texts map_head.Select name h)
 parts-spelling (DropMap name) h = parts-join (map_word map_head.Drop) (name_text name ∷ []) (named-texts map_head.Drop name h)
 
@@ -119,7 +105,7 @@ one-name : (m n : Name8) (w v : List ℕ) → IsNamed is_marker m → IsNamed is
 one-name m n w v h g e = h.padded ∙ ap (λ ws. name_of (second ws)) e ∙ sym g.padded
 
 one-command : (c d : ProjectCommand) → InProjectRange c → InProjectRange d → head_in c ≡ head_in d → project_words_of c ≡ project_words_of d → project_spelling c ≡ project_spelling d → c ≡ d
-one-command (Current c) (Current d) h g e w s = ap Current (complete_of_one_map.spelling-one c d h g s)
+one-command (Current c) (Current d) h g e w s = ap Current (proved_of_one_map.spelling-one c d h g s)
 one-command (Current c) (SelectMap n) h g e w s = absurd (cc e)
 one-command (Current c) (DropMap n) h g e w s = absurd (cc e)
 one-command (SelectMap m) (Current d) h g e w s = absurd (cc e)

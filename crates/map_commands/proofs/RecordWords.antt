@@ -10,7 +10,8 @@ use Rattle.map_tables.specs.Ranges.{IsLine, IsSector, IsSide, IsThing, IsVertex}
 use Rattle.map_commands.specs.declared.command.RoomPlan.{RoomPlan}
 use Rattle.map_commands.specs.Step.{IsPlan}
 use Rattle.map_commands.specs.Places.{line_places, room_places, sector_places, side_places, thing_places, vertex_places}
-use Rattle.map_commands.specs.Spelling.{line_words, room_words, sector_words, side_words, thing_words, vertex_words}
+use Rattle.map_commands.specs.Spelling.{line_words, sector_words, side_words, thing_words, vertex_words}
+use Rattle.map_commands.specs.Rooms.{room_words}
 use Rattle.map_commands.specs.Words.{numeral_value}
 use Rattle.lump_records.proofs.DrawingLemmas.{drawable_x, drawable_y}
 use Rattle.map_commands.proofs.Accepted.{AllFit, all-read, item-ok, left-ok, name-ok, next, number-ok}

@@ -11,6 +11,7 @@ use Rattle.std.proofs.lemmas.Fmt.{length-decimal-le}
 use Rattle.lump_records.specs.declared.records.Name8.{Name8}
 use Rattle.map_tables.specs.declared.kind.Kind.{Kind}
 use Rattle.map_tables.specs.declared.kind.Kind.TheVariants as kind
+use Rattle.map_tables.specs.Ranges.{last_of}
 use Rattle.lump_records.specs.Names.{IsNamed, is_marker, is_name, is_name_byte, name_text}
 use Rattle.map_commands.specs.Spelling.{kind_word}
 use Rattle.map_commands.specs.Words.{onto_first, parts}
@@ -127,3 +128,13 @@ kind-text kind.Sector = record { inside = refl; short = lit≤ tt }
 kind-text kind.Side = record { inside = refl; short = lit≤ tt }
 kind-text kind.Line = record { inside = refl; short = lit≤ tt }
 kind-text kind.Thing = record { inside = refl; short = lit≤ tt }
+
+pub number-text : (n last : ℕ) → n ≤ last → last ≤ 32767 → IsText (decimal n)
+number-text n last h l = decimal-text n (omega arith)
+
+pub drop-texts : (k : Kind) (n : ℕ) → n ≤ last_of k → IsText (decimal n)
+drop-texts kind.Vertex n h = number-text n 32766 h (lit≤ tt)
+drop-texts kind.Sector n h = number-text n 4095 h (lit≤ tt)
+drop-texts kind.Side n h = number-text n 32766 h (lit≤ tt)
+drop-texts kind.Line n h = number-text n 32766 h (lit≤ tt)
+drop-texts kind.Thing n h = number-text n 32766 h (lit≤ tt)

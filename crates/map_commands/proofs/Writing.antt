@@ -3,11 +3,11 @@ use Rattle.std.proofs.Common.{◌≡◌, List, ◌∷◌, ℕ, ◌++◌, ◌∙�
 use Rattle.std.specs.List.{join_with_byte}
 use Rattle.std.specs.Prelude.{IfOk}
 use Rattle.map_commands.specs.declared.command.Command.{Command}
-use Rattle.map_commands.specs.declared.command.Command.TheVariants.{Name, Edit, Room, Split}
+use Rattle.map_commands.specs.declared.command.Command.TheVariants.{Edit}
 use Rattle.map_tables.specs.declared.edit.Edit.TheVariants as edit
 use Rattle.map_tables.specs.declared.edit.Item.TheVariants as item
 use Rattle.map_commands.specs.declared.text.Text.{Text}
-use Rattle.map_commands.specs.Spelling.{head_for, head_word, spelling, words_behind}
+use Rattle.map_commands.specs.Grammar.{head_for, head_word, spelling, words_behind}
 use Rattle.map_commands.specs.Views.{Adds, written}
 
 both : (x y z : Text) (a b : List ℕ) → Adds x y a → Adds y z b → Adds x z (a ++ b)
@@ -20,20 +20,9 @@ further (Err f) x y a b e h = tt
 
 -- the first word, and the others behind a space each
 spelling_parts : (c : Command) → spelling c ≡ head_word (head_for c) ++ 32 ∷ join_with_byte 32 (words_behind c)
-spelling_parts (Name n) = refl
 spelling_parts (Edit (edit.Add (item.Vertex v))) = refl
-spelling_parts (Edit (edit.Add (item.Sector s))) = refl
-spelling_parts (Edit (edit.Add (item.Side s))) = refl
-spelling_parts (Edit (edit.Add (item.Line l))) = refl
-spelling_parts (Edit (edit.Add (item.Thing t))) = refl
 spelling_parts (Edit (edit.Set i (item.Vertex v))) = refl
-spelling_parts (Edit (edit.Set i (item.Sector s))) = refl
-spelling_parts (Edit (edit.Set i (item.Side s))) = refl
-spelling_parts (Edit (edit.Set i (item.Line l))) = refl
-spelling_parts (Edit (edit.Set i (item.Thing t))) = refl
-spelling_parts (Edit (edit.Drop k i)) = refl
-spelling_parts (Room r) = refl
-spelling_parts (Split s) = refl
+spelling_parts c = refl
 
 -- the first word of a command, and the others behind it
 pub whole : {E : Type 0} (r : Result Text E) (x : Text) (c : Command) → written x ≡ head_word (head_for c)

@@ -3,7 +3,7 @@ use Rattle.std.specs.Prelude.{ℕ, List, [], ◌∷◌, codes}
 use Rattle.std.specs.List.{join_with_byte}
 use Rattle.lump_records.specs.Names.{IsNamed, is_marker, name_text}
 use Rattle.map_commands.specs.Step as of_one
-use Rattle.map_commands.specs.Spelling as of_one_map
+use Rattle.map_commands.specs.Grammar as of_one_map
 use Rattle.map_commands.specs.declared.project.command.MapHead.{MapHead}
 use Rattle.map_commands.specs.declared.project.command.MapHead.TheVariants as head
 use Rattle.map_commands.specs.declared.project.command.ProjectCommand.{ProjectCommand}

@@ -1,14 +1,17 @@
--- What `room` adds to a map, and why it is refused.
-use Rattle.std.specs.Prelude.{ℕ, ◌+◌, Bool, ◌||◌, List, [], ◌∷◌, ◌++◌, length, pos}
+-- What `room` adds to a map, why it is refused, and its words.
+use Rattle.std.specs.Prelude.{ℕ, ◌+◌, Bool, ◌&&◌, ◌||◌, if◌then◌else◌, int_lt, Option, Some, None, List, [], ◌∷◌, ◌++◌, length, pos}
+use Rattle.std.specs.Fmt.{signed_decimal}
 use Rattle.std.specs.List.{list_any}
 use Rattle.lump_records.specs.declared.records.Line.{Line}
 use Rattle.lump_records.specs.declared.records.Sector.{Sector}
 use Rattle.lump_records.specs.declared.records.Side.{Side}
 use Rattle.lump_records.specs.declared.records.Vertex.{Vertex}
-use Rattle.lump_records.specs.Names.{name_of}
+use Rattle.lump_records.specs.Names.{name_of, name_text}
 use Rattle.lump_records.specs.Sides.{no_side}
-use Rattle.map_commands.specs.declared.error.CommandError.TheVariants.{PlaceTaken, TableFull}
+use Rattle.map_commands.specs.declared.error.CommandError.TheVariants.{OutOfRange, PlaceTaken, TableFull}
 use Rattle.map_commands.specs.Errors.{code_of}
+use Rattle.map_commands.specs.Places.{places_fault, room_places}
+use Rattle.map_commands.specs.Words.{numeral_value}
 use Rattle.map_tables.specs.declared.edit.Need.{Need}
 use Rattle.map_tables.specs.Tables.{Tables}
 use Rattle.map_tables.specs.Faults.{is_taken, lacks_room, lacks_sector_room}
@@ -102,3 +105,30 @@ four_vertices = record { vertices = 4; sectors = 0; sides = 0; lines = 0; things
 -- four sides
 abbrev pub four_sides : Need
 four_sides = record { vertices = 0; sectors = 0; sides = 4; lines = 0; things = 0 }
+
+-- ---- Its words
+
+-- X1 Y1 X2 Y2 F C FN CN WALL LIGHT
+abbrev pub room_words : RoomPlan → List (List ℕ)
+room_words r =
+    signed_decimal r.west ∷ signed_decimal r.south ∷ signed_decimal r.east ∷ signed_decimal r.north
+    ∷ signed_decimal r.floor ∷ signed_decimal r.ceiling ∷ name_text r.floor_name
+    ∷ name_text r.ceiling_name
+    ∷ name_text r.wall ∷ signed_decimal r.light ∷ []
+
+-- OutOfRange for a room of no width or no height
+abbrev pub flat_fault : List (List ℕ) → Option ℕ
+flat_fault (west ∷ south ∷ east ∷ north ∷ ws) =
+    if int_lt (numeral_value west) (numeral_value east)
+    && int_lt (numeral_value south) (numeral_value north)
+    then None else Some (code_of OutOfRange)
+flat_fault _ = None
+
+-- the first, or else the other
+abbrev pub or_else : Option ℕ → Option ℕ → Option ℕ
+or_else (Some code) other = Some code
+or_else None other = other
+
+-- the fault of a room's words: flatness is looked at where all of them pass
+abbrev pub room_fault : List (List ℕ) → Option ℕ
+room_fault ws = or_else (places_fault room_places ws) (flat_fault ws)

@@ -1,7 +1,6 @@
--- The one spelling of each command.
-use Rattle.std.specs.Prelude.{ℕ, ◌==◌, if◌then◌else◌, List, [], ◌∷◌, codes, decimal}
+-- The words of items and tables in commands, and which of them are numbers of items.
+use Rattle.std.specs.Prelude.{ℕ, ◌==◌, if◌then◌else◌, List, [], ◌∷◌, Option, Some, None, find, pos, bytes_eq, codes, decimal}
 use Rattle.std.specs.Fmt.{signed_decimal}
-use Rattle.std.specs.List.{join_with_byte}
 use Rattle.lump_records.specs.declared.records.Thing.{Thing}
 use Rattle.lump_records.specs.declared.records.Line.{Line}
 use Rattle.lump_records.specs.declared.records.Side.{Side}
@@ -11,31 +10,14 @@ use Rattle.map_tables.specs.declared.kind.Kind.{Kind}
 use Rattle.map_tables.specs.declared.kind.Kind.TheVariants as kind
 use Rattle.lump_records.specs.Names.{name_text}
 use Rattle.lump_records.specs.Sides.{no_side}
-use Rattle.map_commands.specs.declared.keywords.Head.{Head}
-use Rattle.map_commands.specs.declared.keywords.Head.TheVariants as head
-use Rattle.map_commands.specs.declared.command.RoomPlan.{RoomPlan}
-use Rattle.map_commands.specs.declared.command.Command.{Command}
-use Rattle.map_commands.specs.declared.command.Command.TheVariants.{Name, Edit, Room, Split}
-use Rattle.map_tables.specs.declared.edit.Edit.TheVariants as edit
+use Rattle.map_tables.specs.Ranges.{last_of}
+use Rattle.map_commands.specs.Errors.{code_of}
+use Rattle.map_commands.specs.Places.{Number, places_fault}
+use Rattle.map_commands.specs.declared.error.CommandError.TheVariants.{NotACommand}
+use Rattle.map_commands.specs.declared.grammar.Head.{Head}
+use Rattle.map_commands.specs.declared.grammar.Head.TheVariants as head
 use Rattle.map_tables.specs.declared.edit.Item.{Item}
 use Rattle.map_tables.specs.declared.edit.Item.TheVariants as item
-
--- the first word of a command
-abbrev pub head_word : Head → List ℕ
-head_word head.Name = codes "name"
-head_word head.Vertex = codes "vertex"
-head_word head.Sector = codes "sector"
-head_word head.Side = codes "side"
-head_word head.Line = codes "line"
-head_word head.Thing = codes "thing"
-head_word head.MoveVertex = codes "move-vertex"
-head_word head.SetSector = codes "set-sector"
-head_word head.SetSide = codes "set-side"
-head_word head.SetLine = codes "set-line"
-head_word head.SetThing = codes "set-thing"
-head_word head.Drop = codes "drop"
-head_word head.Room = codes "room"
-head_word head.Split = codes "split"
 
 -- the word of a table, behind `drop`
 abbrev pub kind_word : Kind → List ℕ
@@ -44,6 +26,24 @@ kind_word kind.Sector = codes "sector"
 kind_word kind.Side = codes "side"
 kind_word kind.Line = codes "line"
 kind_word kind.Thing = codes "thing"
+
+-- all tables
+abbrev pub kinds : List Kind
+kinds = kind.Vertex ∷ kind.Sector ∷ kind.Side ∷ kind.Line ∷ kind.Thing ∷ []
+
+-- the table that a word names
+abbrev pub kind_of : List ℕ → Option Kind
+kind_of w = find (λ k. bytes_eq w (kind_word k)) kinds
+
+-- the fault of what stands behind the word of a table: NotACommand where it is none
+abbrev pub kind_fault : Option Kind → List (List ℕ) → Option ℕ
+kind_fault None ws = Some (code_of NotACommand)
+kind_fault (Some k) ws = places_fault (Number (pos 0) (pos (last_of k)) ∷ []) ws
+
+-- KIND I
+abbrev pub drop_fault : List (List ℕ) → Option ℕ
+drop_fault [] = Some (code_of NotACommand)
+drop_fault (k ∷ ws) = kind_fault (kind_of k) ws
 
 -- X Y
 abbrev pub vertex_words : Vertex → List (List ℕ)
@@ -81,14 +81,6 @@ thing_words t =
     ∷ signed_decimal t.options
     ∷ []
 
--- X1 Y1 X2 Y2 F C FN CN WALL LIGHT
-abbrev pub room_words : RoomPlan → List (List ℕ)
-room_words r =
-    signed_decimal r.west ∷ signed_decimal r.south ∷ signed_decimal r.east ∷ signed_decimal r.north
-    ∷ signed_decimal r.floor ∷ signed_decimal r.ceiling ∷ name_text r.floor_name
-    ∷ name_text r.ceiling_name
-    ∷ name_text r.wall ∷ signed_decimal r.light ∷ []
-
 -- the words of an item
 abbrev pub item_words : Item → List (List ℕ)
 item_words (item.Vertex v) = vertex_words v
@@ -113,28 +105,13 @@ set_head (item.Side s) = head.SetSide
 set_head (item.Line l) = head.SetLine
 set_head (item.Thing t) = head.SetThing
 
--- the first word of a command
-abbrev pub head_for : Command → Head
-head_for (Name n) = head.Name
-head_for (Edit (edit.Add i)) = add_head i
-head_for (Edit (edit.Set n i)) = set_head i
-head_for (Edit (edit.Drop k i)) = head.Drop
-head_for (Room r) = head.Room
-head_for (Split s) = head.Split
+-- ---- Numbers of items
 
--- the words behind the first
-abbrev pub words_behind : Command → List (List ℕ)
-words_behind (Name n) = name_text n ∷ []
-words_behind (Edit (edit.Add i)) = item_words i
-words_behind (Edit (edit.Set n i)) = decimal n ∷ item_words i
-words_behind (Edit (edit.Drop k i)) = kind_word k ∷ decimal i ∷ []
-words_behind (Room r) = room_words r
-words_behind (Split s) = decimal s.line ∷ vertex_words s.at
+-- XO YO UP LOW MID SECTOR
+abbrev pub side_kinds : List (Option Kind)
+side_kinds = None ∷ None ∷ None ∷ None ∷ None ∷ Some kind.Sector ∷ []
 
--- the words of a command
-abbrev pub words_of : Command → List (List ℕ)
-words_of c = head_word (head_for c) ∷ words_behind c
-
--- the line that is the command: its words with one space between each two
-abbrev pub spelling : Command → List ℕ
-spelling c = join_with_byte 32 (words_of c)
+-- V1 V2 FLAGS SPECIAL TAG RIGHT LEFT
+abbrev pub line_kinds : List (Option Kind)
+line_kinds =
+    Some kind.Vertex ∷ Some kind.Vertex ∷ None ∷ None ∷ None ∷ Some kind.Side ∷ Some kind.Side ∷ []

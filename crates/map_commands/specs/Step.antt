@@ -1,5 +1,6 @@
--- What a command of a map is, why it is refused, the map that it leaves, its number, and what it adds.
-use Rattle.std.specs.Prelude.{ℕ, Bool, List, [], length, ◌≤◌, pos, ◌<ℤ◌, ◌+◌, ◌*◌}
+-- What a command of a map is, why it is refused, the map that it leaves, its number, and what it adds and
+-- drops.
+use Rattle.std.specs.Prelude.{ℕ, Bool, List, [], length, ◌≤◌, pos, ◌<ℤ◌, ◌+◌, ◌*◌, Option, Some, None}
 use Rattle.map_tables.specs.Tables.{Tables}
 use Rattle.map_tables.specs.EditFaults.{edit_faults}
 use Rattle.map_tables.specs.Edits.{after_edit, edit_number, with_name, edit_need}
@@ -11,7 +12,9 @@ use Rattle.lump_records.specs.Drawing.{IsBetween, IsCoordinate}
 use Rattle.lump_records.specs.Names.{IsNamed, is_marker, is_name}
 use Rattle.map_tables.specs.Ranges.{IsEdit, IsShort, IsVertex}
 use Rattle.map_commands.specs.declared.command.RoomPlan.{RoomPlan}
+use Rattle.map_tables.specs.declared.edit.Edit.TheVariants as edit
 use Rattle.map_tables.specs.declared.edit.Need.{Need}
+use Rattle.map_tables.specs.declared.kind.Kind.{Kind}
 use Rattle.map_tables.specs.Outcomes.{no_need}
 
 -- ---- Its numbers and names
@@ -65,7 +68,7 @@ number_of m (Edit e) = edit_number m e
 number_of m (Room r) = length m.sectors
 number_of m (Split s) = length m.lines
 
--- ---- What it adds
+-- ---- What it adds and drops
 
 -- how many items a command adds to each table
 abbrev pub need_of : Command → Need
@@ -78,3 +81,8 @@ need_of (Name name) = no_need
 abbrev pub growth_of : Need → ℕ
 growth_of need =
     10 * need.things + 14 * need.lines + 30 * need.sides + 4 * need.vertices + 26 * need.sectors
+
+-- the kind and the number of the item that a command drops
+abbrev pub dropped_of : Command → Option (Kind × ℕ)
+dropped_of (Edit (edit.Drop k n)) = Some (k, n)
+dropped_of c = None

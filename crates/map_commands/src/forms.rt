@@ -1,37 +1,31 @@
 //! Reads what follows the first word of a command of a map.
-ghost use Rattle.std.specs.Prelude.{◌≡◌, ◌&&◌, int_lt, [], ◌∷◌, ◌≤◌, Some, None, IfOk, decimal};
+ghost use Rattle.std.specs.Prelude.{◌≡◌, [], ◌∷◌, ◌≤◌, Some, None, IfOk, decimal};
 ghost use Rattle.lump_records.specs.Names.{IsNamed, is_marker, name_text};
 ghost use Rattle.map_tables.specs.Ranges.{IsLine, IsSector, IsSide, IsThing, IsVertex};
-ghost use Rattle.map_commands.specs.Step.{InRange, IsPlan};
+ghost use Rattle.map_commands.specs.Step.{InRange};
 ghost use Rattle.map_commands.specs.Errors.{TellsFault};
-ghost use Rattle.map_commands.specs.Grammar.{drop_fault, room_fault};
-ghost use Rattle.map_commands.specs.Places.{Named, item, line_places, places_fault, room_places, sector_item, sector_places, side_places, thing_places, vertex_places};
+ghost use Rattle.map_commands.specs.Spelling.{drop_fault, line_words, sector_words, side_words, thing_words, vertex_words};
+ghost use Rattle.map_commands.specs.Places.{Named, item, line_places, places_fault, sector_item, sector_places, side_places, thing_places, vertex_places};
 ghost use Rattle.map_commands.specs.Reading.{fault_with};
-ghost use Rattle.map_commands.specs.Spelling.{head_word, line_words, room_words, sector_words, side_words, thing_words, vertex_words, words_of};
+ghost use Rattle.map_commands.specs.Grammar.{head_word, words_of};
 ghost use Rattle.map_commands.specs.Views.{reading};
-ghost use Rattle.map_commands.specs.declared.keywords.Head.TheVariants as head;
+ghost use Rattle.map_commands.specs.declared.grammar.Head.TheVariants as head;
 
-use crate::command::{Command, RoomPlan};
+use crate::command::Command;
 use crate::error::CommandError;
-use crate::keywords::{LAST_ITEM, LAST_SECTOR, kind_in, last_number};
+use crate::kinds::{LAST_ITEM, LAST_SECTOR, kind_in, last_number};
 use crate::unread::UnreadWords;
 use lump_records::{
     GREATEST_COORDINATE, LEAST_COORDINATE, Line, Name8, Sector, Side, Thing, Vertex,
 };
 use map_tables::{Edit, Item};
 
-const GREATEST_LIGHT: i16 = 255;
+/// The greatest light of a sector.
+pub const GREATEST_LIGHT: i16 = 255;
 // In degrees.
 const GREATEST_ANGLE: i16 = 359;
 // The greatest value of the flags, special and tag of a line.
 const GREATEST_FLAGS: u16 = 32767;
-// Whether the room has some width and some height.
-fn has_area(plan: &RoomPlan) -> bool
-    ensures { result ≡ (int_lt plan.now.west plan.now.east
-        && int_lt plan.now.south plan.now.north) }
-{
-    plan.west < plan.east && plan.south < plan.north
-}
 
 impl<'a> UnreadWords<'a> {
     /// Reads a place.
@@ -211,56 +205,6 @@ impl<'a> UnreadWords<'a> {
         let number = self.item(LAST_ITEM);
         match self.thing() {
             Ok(thing) => Ok(Command::Edit(Edit::Set(number, Item::Thing(thing)))),
-            Err(error) => Err(error),
-        }
-    }
-
-    // Reads a room, which may still be flat.
-    fn room_plan(mut self) -> Result<RoomPlan, CommandError>
-        ensures ok { IfOk result (λ r. ((reading self.entry).fault ≡ None)
-            × ((reading self.entry).words ≡ room_words r) × IsPlan r) }
-        ensures fault { TellsFault result (fault_with (reading self.entry) room_places) }
-    {
-        let west = self.number(LEAST_COORDINATE, GREATEST_COORDINATE);
-        let south = self.number(LEAST_COORDINATE, GREATEST_COORDINATE);
-        let east = self.number(LEAST_COORDINATE, GREATEST_COORDINATE);
-        let north = self.number(LEAST_COORDINATE, GREATEST_COORDINATE);
-        let floor = self.number(i16::MIN, i16::MAX);
-        let ceiling = self.number(i16::MIN, i16::MAX);
-        let floor_name = self.name();
-        let ceiling_name = self.name();
-        let wall = self.name();
-        let light = self.number(0, GREATEST_LIGHT);
-        self.finish()?;
-        Ok(RoomPlan {
-            west,
-            south,
-            east,
-            north,
-            floor,
-            ceiling,
-            floor_name,
-            ceiling_name,
-            wall,
-            light,
-        })
-    }
-
-    /// Reads a room, and refuses a flat one.
-    pub fn room(self) -> Result<Command, CommandError>
-        requires { (reading self).fault ≡ None }
-        ensures ok { IfOk result (λ c.
-            (head_word head.Room ∷ (reading self.entry).words ≡ words_of c) × InRange c) }
-        ensures fault { TellsFault result (room_fault (reading self.entry).words) }
-    {
-        match self.room_plan() {
-            Ok(plan) => {
-                if has_area(&plan) {
-                    Ok(Command::Room(plan))
-                } else {
-                    Err(CommandError::OutOfRange)
-                }
-            }
             Err(error) => Err(error),
         }
     }

@@ -3,23 +3,33 @@
 #![tactic(auto)]
 
 mod command;
-mod decision;
+mod deed;
+mod edits;
 mod error;
 mod forms;
 mod grammar;
-mod keywords;
+mod kinds;
+mod layout;
 mod names;
+mod need;
+mod numbers;
 mod project;
 mod room;
-mod spelling;
+mod split;
 mod text;
 mod unread;
 mod words;
 
-pub use command::{Command, LineSplit, RoomPlan};
-pub use decision::{can_do, growth_of};
+pub use command::{Command, LineSplit, RoomPlan, can_do};
+pub use deed::Deed;
 pub use error::CommandError;
-pub use keywords::{Head, LAST_ITEM, LAST_SECTOR, head_text, kind_in, last_number};
+pub use grammar::{
+    DEEDS, FORMS, Head, head_answer, head_in, head_layout, head_numbers, head_puts_vertex,
+    head_text,
+};
+pub use kinds::{LAST_ITEM, LAST_SECTOR, kind_in, last_number};
+pub use layout::Layout;
+pub use need::growth_of;
 pub use project::{
     ProjectCommand, Ready, accept_each_spelling, apply, commit, end_in_one_way,
     lead_to_one_project, need_of, parse, print, ready, spell_one_command,

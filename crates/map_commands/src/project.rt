@@ -4,12 +4,9 @@ mod adding;
 mod changes;
 mod command;
 mod decision;
-mod edits;
 mod grammar;
 mod laws;
-mod room;
 mod spelling;
-mod split;
 
 pub use changes::{apply, commit, ready};
 pub use command::{ProjectCommand, Ready};

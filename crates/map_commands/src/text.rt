@@ -1,6 +1,5 @@
 //! The line of a command of a map, as it is written.
-use crate::command::RoomPlan;
-use crate::keywords::kind_text;
+use crate::kinds::kind_text;
 use crate::names::text_of;
 use lump_records::{Line, NO_SIDE, Name8, Sector, Side, Thing, Vertex};
 use map_tables::{Item, Kind};
@@ -19,8 +18,7 @@ impl Text {
     ghost use Rattle.std.specs.Str.{IsUtf8};
     ghost use Rattle.lump_records.specs.Names.{name_text};
     ghost use Rattle.map_tables.specs.Ranges.{IsItem, IsSector, IsSide};
-    ghost use Rattle.map_commands.specs.Step.{IsPlan};
-    ghost use Rattle.map_commands.specs.Spelling.{item_words, kind_word, left_word, line_words, room_words, sector_words, side_words, thing_words, vertex_words};
+    ghost use Rattle.map_commands.specs.Spelling.{item_words, kind_word, left_word, line_words, sector_words, side_words, thing_words, vertex_words};
     ghost use Rattle.map_commands.specs.Views.{Adds, written};
 
     /// A line that has its first word.
@@ -47,8 +45,8 @@ impl Text {
         Ok(self)
     }
 
-    // Adds a signed number.
-    fn number(mut self, n: &i16) -> Result<Self, AllocError>
+    /// Adds a signed number.
+    pub fn number(mut self, n: &i16) -> Result<Self, AllocError>
         ensures { IfOk result (λ t. Adds self t (32 ∷ signed_decimal n.now)) }
     {
         let n = *n;
@@ -141,23 +139,6 @@ impl Text {
             .number(&thing.angle)?
             .number(&thing.kind)?
             .number(&thing.options)
-    }
-
-    /// Adds the words of a room.
-    pub fn room(self, plan: &RoomPlan) -> Result<Self, AllocError>
-        requires { IsPlan plan.now }
-        ensures { IfOk result (λ t. Adds self t (32 ∷ join_with_byte 32 (room_words plan.now))) }
-    {
-        self.number(&plan.west)?
-            .number(&plan.south)?
-            .number(&plan.east)?
-            .number(&plan.north)?
-            .number(&plan.floor)?
-            .number(&plan.ceiling)?
-            .name(&plan.floor_name)?
-            .name(&plan.ceiling_name)?
-            .name(&plan.wall)?
-            .number(&plan.light)
     }
 
     /// Adds the words of an item.

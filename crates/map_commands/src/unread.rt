@@ -1,6 +1,6 @@
 //! The words of a line that are still to be read, and the leftmost fault so far.
 use crate::error::CommandError;
-use crate::keywords::LAST_ITEM;
+use crate::kinds::LAST_ITEM;
 use crate::names::{FIRST_MAP, NO_TEXTURE, marker_in, name_in};
 use crate::words::{next_part, number_in};
 use lump_records::{NO_SIDE, Name8};

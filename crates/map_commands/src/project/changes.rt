@@ -1,21 +1,16 @@
 //! The calls that change a project: `ready` decides and allocates, `commit` then makes the change, `apply` does both.
-ghost use Rattle.std.specs.Prelude.{◌≡◌, ◌≤◌, None, IfOk, IfErr, IsErrOf, Ok};
-ghost use Rattle.map_tables.specs.Outcomes.{Covers, least};
+ghost use Rattle.std.specs.Prelude.{◌≡◌, ◌≤◌, IfOk, IfErr, IsErrOf, Ok};
+ghost use Rattle.map_tables.specs.Outcomes.{Covers};
 ghost use Rattle.map_tables.specs.Projects.{body_len, project_of};
 ghost use Rattle.map_commands.specs.ProjectCommands.{InProjectRange};
 ghost use Rattle.map_commands.specs.ProjectReadiness.{CanCommit, EndsStep, RefusesStep, project_need_of};
-ghost use Rattle.map_commands.specs.ProjectStep.{project_after, naming_faults, project_number_of, step};
-ghost use Rattle.map_commands.specs.Step as of_one_map;
-ghost use Rattle.map_commands.specs.Step.{faults};
+ghost use Rattle.map_commands.specs.ProjectStep.{project_after, project_number_of, step};
 
-use crate::command::Command;
+use crate::command::{Command, change};
 use crate::error::CommandError;
 use crate::project::adding::try_add;
 use crate::project::command::{ProjectCommand, Ready};
 use crate::project::decision::{can_do, is_full, need_of};
-use crate::project::edits::{put, put_name};
-use crate::project::room::draw;
-use crate::project::split::cut;
 use map_tables::Maps;
 
 /// Decides whether a command may be done, and allocates all memory that it needs. The project stays as it is. The
@@ -46,27 +41,6 @@ pub fn ready(maps: &mut Maps, command: &ProjectCommand, cap: u32) -> Result<Read
     match maps.reserve(need_of(command)) {
         Ok(()) => Ok(Ready { command: *command }),
         Err(_) => Err(CommandError::OutOfMemory),
-    }
-}
-
-// Makes a change that the current map accepts and has memory for, and returns its number.
-fn change(maps: &mut Maps, command: Command) -> u32
-    requires range { of_one_map.InRange command }
-    requires accepted { least (faults maps.old.tables command) ≡ None }
-    requires named { least (naming_faults (project_of maps.old) command) ≡ None }
-    requires covered { Covers maps.old.spare (of_one_map.need_of command) }
-    ensures tables { maps.new.tables ≡ of_one_map.after maps.old.tables command }
-    ensures number { result ≡ of_one_map.number_of maps.old.tables command }
-    ensures others { maps.new.others ≡ maps.old.others }
-{
-    match command {
-        Command::Name(name) => {
-            put_name(maps, name);
-            0
-        }
-        Command::Edit(edit) => put(maps, edit),
-        Command::Room(plan) => draw(maps, &plan),
-        Command::Split(split) => cut(maps, &split),
     }
 }
 

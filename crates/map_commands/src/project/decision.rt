@@ -7,8 +7,9 @@ ghost use Rattle.map_commands.specs.ProjectReadiness.{project_growth_of, project
 ghost use Rattle.map_commands.specs.Step.{faults};
 
 use crate::command::Command;
-use crate::decision;
+use crate::need::NO_NEED;
 use crate::project::command::ProjectCommand;
+use crate::{command, need};
 use lump_records::Name8;
 use map_tables::{MapError, Maps, Need};
 
@@ -26,7 +27,7 @@ fn can_be_named(maps: &Maps, command: &Command) -> Result<(), MapError>
 fn can_change(maps: &Maps, command: &Command) -> Result<(), MapError>
     ensures { Tells result (faults (current_map (project_of maps.now)) command.now) }
 {
-    decision::can_do(maps.current(), command)
+    command::can_do(maps.current(), command)
 }
 
 // Whether a change of the current map is accepted. The refusal is the one with the lowest code.
@@ -58,8 +59,8 @@ pub fn need_of(command: &ProjectCommand) -> Need
     ensures { result ≡ project_need_of command.now }
 {
     match command {
-        ProjectCommand::Current(edit) => decision::need_of(edit),
-        ProjectCommand::SelectMap(_) | ProjectCommand::DropMap(_) => decision::NO_NEED,
+        ProjectCommand::Current(edit) => command::need_of(edit),
+        ProjectCommand::SelectMap(_) | ProjectCommand::DropMap(_) => NO_NEED,
     }
 }
 
@@ -75,7 +76,7 @@ fn growth_of(maps: &Maps, command: &ProjectCommand) -> u64
     ensures { result ≡ project_growth_of (project_of maps.now) command.now }
 {
     match command {
-        ProjectCommand::Current(edit) => decision::growth_of(decision::need_of(edit)),
+        ProjectCommand::Current(edit) => need::growth_of(command::need_of(edit)),
         ProjectCommand::SelectMap(name) => if has_map(maps, *name) { 0 } else { 18 },
         ProjectCommand::DropMap(_) => 0,
     }

@@ -5,9 +5,9 @@ ghost use Rattle.lump_records.specs.Names.{IsNamed, is_marker, name_text};
 ghost use Rattle.map_commands.specs.ProjectCommands.{InProjectRange, map_word, project_spelling};
 
 use crate::error::CommandError;
+use crate::grammar;
 use crate::project::command::{MapHead, ProjectCommand};
 use crate::project::grammar::map_text;
-use crate::spelling;
 use crate::text::Text;
 use lump_records::Name8;
 use std::alloc::Global;
@@ -31,7 +31,7 @@ pub fn print(alloc: Global, command: &ProjectCommand) -> Result<Vec<u8>, Command
     ensures memory { IsOkUnless result CommandError.OutOfMemory }
 {
     match command {
-        ProjectCommand::Current(edit) => spelling::print(alloc, edit),
+        ProjectCommand::Current(edit) => grammar::print(alloc, edit),
         ProjectCommand::SelectMap(name) => line(alloc, MapHead::Select, name),
         ProjectCommand::DropMap(name) => line(alloc, MapHead::Drop, name),
     }

@@ -1,5 +1,5 @@
 use Rattle.std.proofs.Common.{◌∙◌, sym, ap, cond, Some, None, ℕ, Option}
-use Rattle.map_commands.specs.Grammar.{or_else, flat_fault}
+use Rattle.map_commands.specs.Rooms.{or_else, flat_fault}
 use Rattle.map_commands.specs.Places.{room_places}
 use Rattle.map_commands.specs.Views.{reading}
 use Rattle.map_commands.proofs.Readings.{fresh}

@@ -1,7 +1,7 @@
 use Rattle.std.proofs.Common.{◌∙◌, ap}
-use Rattle.map_commands.specs.Spelling.{head_word}
+use Rattle.map_commands.specs.Grammar.{head_word}
 use Rattle.map_commands.proofs.Writing.{whole}
-use Rattle.map_commands.proofs.spelling.words.Goals as goal
+use Rattle.map_commands.proofs.grammar.words.Goals as goal
 
 pub returns : goal.returns
 returns c =

@@ -1,7 +1,7 @@
 use Rattle.std.proofs.Common.{refl}
 use Rattle.map_tables.specs.WellFormed.{HasEnds, HasSides}
 use Rattle.map_commands.proofs.Cutting.{back_free, cut_is, found_line, front_free, may_cut, of_found}
-use Rattle.map_commands.proofs.project.split.cut.Goals as goal
+use Rattle.map_commands.proofs.split.cut.Goals as goal
 
 pub put-requires-clause-accepted : goal.put-requires-clause-accepted
 put-requires-clause-accepted c =

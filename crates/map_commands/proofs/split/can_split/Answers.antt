@@ -1,7 +1,7 @@
 use Rattle.std.proofs.Common.{◌∙◌, sym}
 use Rattle.map_commands.specs.Splits.{cut_faults, split_faults}
 use Rattle.map_commands.proofs.Cutting.{tells-alike, with-line, without-line}
-use Rattle.map_commands.proofs.decision.can_split.Goals as goal
+use Rattle.map_commands.proofs.split.can_split.Goals as goal
 
 pub returns-in-Some : goal.returns-in-Some
 returns-in-Some c =

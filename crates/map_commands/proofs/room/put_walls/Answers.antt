@@ -1,6 +1,6 @@
 use Rattle.std.proofs.Common.{[], ◌∷◌, ap, sym, arith, append-nil}
 use Rattle.map_commands.proofs.Drawing.{more_lines, wall_free, west_wall, north_wall, east_wall, south_wall}
-use Rattle.map_commands.proofs.project.room.put_walls.Goals as goal
+use Rattle.map_commands.proofs.room.put_walls.Goals as goal
 
 pub put-requires-clause-accepted : goal.put-requires-clause-accepted
 put-requires-clause-accepted c =

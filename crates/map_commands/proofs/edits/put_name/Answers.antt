@@ -1,5 +1,5 @@
 use Rattle.map_commands.proofs.ProjectSteps.{renamed}
-use Rattle.map_commands.proofs.project.edits.put_name.Goals as goal
+use Rattle.map_commands.proofs.edits.put_name.Goals as goal
 
 pub returns-clause-tables : goal.returns-clause-tables
 returns-clause-tables c =
