@@ -14,7 +14,7 @@ use Rattle.lump_records.specs.Names.{IsNamed, is_marker}
 use Rattle.map_tables.specs.Projects.{MapsView, ProjectMaps, WellFormedProject, project_of}
 use Rattle.map_tables.specs.Tables.{Tables, count_of, empty_tables}
 use Rattle.map_tables.proofs.ProjectLemmas.{current_of}
-use Rattle.map_commands.specs.Grammar.{kinds}
+use Rattle.map_commands.specs.Spelling.{kinds}
 use Rattle.map_commands.specs.ProjectCommands.{project_spelling}
 use Rattle.map_commands.specs.declared.command.Command.{Command}
 use Rattle.map_commands.specs.declared.command.Command.TheVariants.{Edit}

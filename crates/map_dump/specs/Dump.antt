@@ -5,7 +5,7 @@ use Rattle.map_tables.specs.declared.kind.Kind.{Kind}
 use Rattle.map_tables.specs.declared.kind.Kind.TheVariants as kind
 use Rattle.map_tables.specs.Tables.{Tables, empty_tables}
 use Rattle.map_tables.specs.Projects.{ProjectMaps, current_map}
-use Rattle.map_commands.specs.Grammar.{kinds}
+use Rattle.map_commands.specs.Spelling.{kinds}
 use Rattle.map_commands.specs.ProjectCommands.{project_spelling}
 use Rattle.map_commands.specs.declared.command.Command.{Command}
 use Rattle.map_commands.specs.declared.command.Command.TheVariants.{Name, Edit}

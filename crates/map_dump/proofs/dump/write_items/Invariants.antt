@@ -1,6 +1,6 @@
 use Rattle.std.specs.Prelude.{flat_map, take}
 use Rattle.std.specs.Io.KnownBytes.{Appends}
-use Rattle.map_commands.specs.Grammar.{kinds}
+use Rattle.map_commands.specs.Spelling.{kinds}
 use Rattle.map_dump.proofs.Written.{table, text}
 use Rattle.map_dump.proofs.dump.write_items.Given as goal
 
