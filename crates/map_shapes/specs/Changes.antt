@@ -2,15 +2,15 @@
 use Rattle.std.specs.Prelude.{ℕ, Bool, true, false, ◌+◌, ◌&&◌, ◌==◌, is_none, if◌then◌else◌, List, [], ◌∷◌, take, drop, position, pos, Option, Some, None, option_map, unwrap_or, bytes_eq, codes, decimal, slice_get}
 use Rattle.std.specs.List.{join_with_byte, list_any}
 use Rattle.map_commands.specs.Errors.{code_of}
-use Rattle.map_commands.specs.Grammar.{kind_of}
+use Rattle.map_commands.specs.Spelling.{kind_of}
 use Rattle.map_commands.specs.Places.{Number, place_fault, prior_fault}
 use Rattle.map_commands.specs.ProjectGrammar.{project_fault_of}
-use Rattle.map_commands.specs.Spelling.{head_word}
+use Rattle.map_commands.specs.Grammar.{head_word}
 use Rattle.map_commands.specs.Words.{parts}
 use Rattle.map_commands.specs.declared.error.CommandError.{CommandError}
 use Rattle.map_commands.specs.declared.error.CommandError.TheVariants.{NotACommand, NoVertex, NoSector, NoSide, NoLine, NoThing}
-use Rattle.map_commands.specs.declared.keywords.Head.{Head}
-use Rattle.map_commands.specs.declared.keywords.Head.TheVariants as head
+use Rattle.map_commands.specs.declared.grammar.Head.{Head}
+use Rattle.map_commands.specs.declared.grammar.Head.TheVariants as head
 use Rattle.map_tables.specs.Ranges.{last_of}
 use Rattle.map_tables.specs.Tables.{Tables}
 use Rattle.map_tables.specs.declared.edit.Item.{Item}

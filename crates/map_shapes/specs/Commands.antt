@@ -5,7 +5,8 @@ use Rattle.map_areas.specs.Areas.{AcceptsArea, AcceptsPillar, RefusesArea, Refus
 use Rattle.map_areas.specs.Drawn.{AreTaken}
 use Rattle.map_areas.specs.declared.error.AreaError.{AreaError}
 use Rattle.map_commands.specs.Errors as of_commands
-use Rattle.map_commands.specs.Spelling.{head_word, item_words}
+use Rattle.map_commands.specs.Grammar.{head_word}
+use Rattle.map_commands.specs.Spelling.{item_words}
 use Rattle.map_commands.specs.ProjectCommands.{project_spelling}
 use Rattle.map_commands.specs.ProjectGrammar.{project_fault_of}
 use Rattle.map_commands.specs.Words.{parts}

@@ -3,7 +3,8 @@ ghost use Rattle.std.specs.Prelude.{◌≡◌, ◌⊎◌, ℕ, List, IfErr, IfOk
 ghost use Rattle.map_commands.specs.Errors.{code_of as command_code_of};
 ghost use Rattle.map_commands.specs.ProjectCommands.{project_spelling};
 ghost use Rattle.map_commands.specs.ProjectGrammar.{project_fault_of};
-ghost use Rattle.map_commands.specs.Spelling.{head_word, item_words};
+ghost use Rattle.map_commands.specs.Grammar.{head_word};
+ghost use Rattle.map_commands.specs.Spelling.{item_words};
 ghost use Rattle.map_commands.specs.Step.{InRange};
 ghost use Rattle.map_commands.specs.Words.{parts};
 ghost use Rattle.map_commands.specs.declared.project.command.ProjectCommand.TheVariants.{Current};

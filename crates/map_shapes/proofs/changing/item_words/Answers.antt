@@ -1,6 +1,6 @@
 use Rattle.std.proofs.Common.{◌≡◌, ◌∷◌, [], List, ℕ, sym, ◌∙◌, ap, drop, Some, rules}
 use Rattle.std.specs.Option.{option_copied}
-use Rattle.map_commands.proofs.CommandWords.{parts-spelling}
+use Rattle.map_commands.proofs.Commands.{parts-spelling}
 use Rattle.map_commands.specs.Spelling.{item_words}
 use Rattle.map_commands.specs.Words.{parts, parts_behind}
 use Rattle.map_commands.specs.declared.command.Command.TheVariants.{Edit}
