@@ -91,8 +91,7 @@ command_keeps m (command.Split s) h = record {
   sectors = same_list m.sectors;
   things = refl;
 }
-command_keeps m (command.Name n) h = absurd h
-command_keeps m (command.Room r) h = absurd h
+command_keeps m c h = absurd h
 
 -- commands that draw
 pub keeps_drawing : (m : Tables) (cs : List Command) → All Draws cs → KeepsItems m (drawn m cs)
