@@ -1,7 +1,7 @@
 -- Where a sum is cut, and what stands between its parentheses.
 use Rattle.std.specs.Prelude.{ℕ, zero, suc, Bool, ◌+◌, ◌-◌, ◌&&◌, ◌||◌, ◌==◌, not, nat_le, nat_lt, if◌then◌else◌, List, [], ◌∷◌, length, take, drop, slice_index, count_by, Option, Some, None}
 use Rattle.map_tables.specs.declared.kind.Kind.{Kind}
-use Rattle.map_commands.specs.Grammar.{kind_of}
+use Rattle.map_commands.specs.Spelling.{kind_of}
 use Rattle.map_script.specs.Names.{cut, has_places}
 
 -- + - * or /

@@ -3,7 +3,7 @@
 use Rattle.std.specs.Prelude.{ℕ, zero, suc, ◌+◌, Bool, true, false, ◌||◌, ◌==◌, is_some, if◌then◌else◌, List, [], ◌∷◌, length, take, drop, position, slice_index, Option, Some, None, Result, Ok, Err, bytes_eq, codes}
 use Rattle.map_tables.specs.declared.kind.Kind.{Kind}
 use Rattle.map_tables.specs.declared.kind.Kind.TheVariants as kind
-use Rattle.map_commands.specs.Grammar.{kind_of}
+use Rattle.map_commands.specs.Spelling.{kind_of}
 use Rattle.map_script.specs.Cuts.{behind_byte, cut_place, inside}
 use Rattle.map_script.specs.Meant.{Meant, meant_by}
 use Rattle.map_script.specs.Names.{cut, is_script_name}

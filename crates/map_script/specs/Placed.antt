@@ -5,13 +5,15 @@ use Rattle.std.specs.Ordering.{int_eq}
 use Rattle.std.specs.List.{join_with_byte}
 use Rattle.std.specs.Option.{is_none}
 use Rattle.lump_records.specs.declared.records.Vertex.{Vertex}
+use Rattle.map_commands.specs.Grammar.{head_layout, head_of}
+use Rattle.map_commands.specs.declared.grammar.Head.{Head}
+use Rattle.map_commands.specs.declared.layout.Layout.{Layout}
+use Rattle.map_commands.specs.declared.layout.Layout.TheVariants.{Corners, Looking, Walls}
 use Rattle.map_commands.specs.Places.{angle, place_fault}
 use Rattle.map_commands.specs.Words.{numeral_value}
 use Rattle.map_script.specs.Placings.{is_coordinate_word, place_of, placed_to, turned_angle}
 use Rattle.map_script.specs.Words.{text_words}
 use Rattle.map_script.specs.declared.error.DrawError.{DrawError}
-use Rattle.map_script.specs.declared.placed.Layout.{Layout}
-use Rattle.map_script.specs.declared.placed.Layout.TheVariants.{Corners, Looking, Walls}
 use Rattle.map_script.specs.declared.placing.Facing.{Facing}
 use Rattle.map_script.specs.declared.placing.Facing.TheVariants.{East, North, West, South}
 use Rattle.map_script.specs.declared.placing.Placing.{Placing}
@@ -64,17 +66,20 @@ placed_by Corners p ws = placed_corners p ws
 placed_by Looking p ws = placed_looking p ws
 placed_by Walls p ws = placed_walls p ws
 
--- how many words of a command stand between its first word and its places, and how the places stand
+-- how many words of a shape stand between its first word and its places, and how the places stand
+abbrev pub shape_layout : List ℕ → Option (ℕ × Layout)
+shape_layout w =
+    if bytes_eq w (codes "pillar") then Some (1, Corners)
+    else (if bytes_eq w (codes "area") then Some (6, Corners) else None)
+
+-- the same for a command, if its first word is known, and else for a shape
+abbrev pub layout_at : Option Head → List ℕ → Option (ℕ × Layout)
+layout_at (Some h) w = head_layout h
+layout_at None w = shape_layout w
+
+-- the same for a line, by its first word
 abbrev pub layout_of : List ℕ → Option (ℕ × Layout)
-layout_of w =
-    if bytes_eq w (codes "vertex") then Some (0, Corners)
-    else (if bytes_eq w (codes "thing") then Some (0, Looking)
-    else (if bytes_eq w (codes "room") then Some (0, Walls)
-    else (if bytes_eq w (codes "move-vertex") then Some (1, Corners)
-    else (if bytes_eq w (codes "split") then Some (1, Corners)
-    else (if bytes_eq w (codes "set-thing") then Some (1, Looking)
-    else (if bytes_eq w (codes "pillar") then Some (1, Corners)
-    else (if bytes_eq w (codes "area") then Some (6, Corners) else None)))))))
+layout_of w = layout_at (head_of w) w
 
 -- the words behind a first word
 abbrev pub placed_behind : Placing → Option (ℕ × Layout) → List (List ℕ) → List (List ℕ)

@@ -3,7 +3,9 @@
 use Rattle.std.specs.Prelude.{ℕ, ◌||◌, if◌then◌else◌, List, [], ◌∷◌, drop, Option, Some, None, bytes_eq, codes}
 use Rattle.map_tables.specs.declared.kind.Kind.{Kind}
 use Rattle.map_tables.specs.declared.kind.Kind.TheVariants as kind
-use Rattle.map_commands.specs.Grammar.{kind_of}
+use Rattle.map_commands.specs.Grammar.{head_answer, head_numbers, head_of}
+use Rattle.map_commands.specs.Spelling.{kind_of}
+use Rattle.map_commands.specs.declared.grammar.Head.{Head}
 use Rattle.map_script.specs.Words.{first_word}
 use Rattle.map_script.specs.declared.referent.Referent.{Referent}
 use Rattle.map_script.specs.declared.referent.Referent.TheVariants.{Nothing, Item, Room}
@@ -21,17 +23,21 @@ of_kind (Some k) = Item k
 
 -- ---- Commands
 
--- the kind of the item whose number the command answers that a word begins
+-- the kind of the item whose number a shape answers, by its first word
+abbrev pub shape_answer : List ℕ → Option Kind
+shape_answer w =
+    if bytes_eq w (codes "pillar") then Some kind.Line
+    else (if bytes_eq w (codes "area") || bytes_eq w (codes "door") then Some kind.Sector
+    else None)
+
+-- the same of a command, if its first word is known, and else of a shape
+abbrev pub answer_at : Option Head → List ℕ → Option Kind
+answer_at (Some h) w = head_answer h
+answer_at None w = shape_answer w
+
+-- the same of a line, by its first word
 abbrev pub command_answer : List ℕ → Option Kind
-command_answer w =
-    if bytes_eq w (codes "vertex") || bytes_eq w (codes "move-vertex") then Some kind.Vertex
-    else (if bytes_eq w (codes "side") || bytes_eq w (codes "set-side") then Some kind.Side
-    else (if bytes_eq w (codes "thing") || bytes_eq w (codes "set-thing") then Some kind.Thing
-    else (if (bytes_eq w (codes "line") || bytes_eq w (codes "set-line"))
-    || (bytes_eq w (codes "split") || bytes_eq w (codes "pillar")) then Some kind.Line
-    else (if (bytes_eq w (codes "sector") || bytes_eq w (codes "set-sector"))
-    || (bytes_eq w (codes "area") || bytes_eq w (codes "door")) then Some kind.Sector
-    else None))))
+command_answer w = answer_at (head_of w) w
 
 -- the kind of the item whose number a command of these two first words answers
 abbrev pub answered_kind : List ℕ → List ℕ → Option Kind
@@ -44,28 +50,15 @@ referent_of ws =
     if bytes_eq (first_word ws) (codes "room") then Room
     else of_kind (answered_kind (first_word ws) (first_word (drop 1 ws)))
 
--- XO YO UP LOW MID SECTOR
-abbrev pub side_kinds : List (Option Kind)
-side_kinds = None ∷ None ∷ None ∷ None ∷ None ∷ Some kind.Sector ∷ []
+-- the kinds of the items whose numbers the words of a command are, word by word, the first one too; a
+-- word behind these is none; of the shapes `door` has the number of a sector
+abbrev pub numbers_at : Option Head → List ℕ → List (Option Kind)
+numbers_at (Some h) w = head_numbers h
+numbers_at None w = if bytes_eq w (codes "door") then None ∷ Some kind.Sector ∷ [] else []
 
--- V1 V2 FLAGS SPECIAL TAG RIGHT LEFT
-abbrev pub line_kinds : List (Option Kind)
-line_kinds =
-    Some kind.Vertex ∷ Some kind.Vertex ∷ None ∷ None ∷ None ∷ Some kind.Side ∷ Some kind.Side ∷ []
-
--- the kinds of the items whose numbers the words of the command are that a word begins, word by word,
--- the first one too; a word behind these is none
+-- the same of a line, by its first word
 abbrev pub command_places : List ℕ → List (Option Kind)
-command_places w =
-    if bytes_eq w (codes "side") then None ∷ side_kinds
-    else (if bytes_eq w (codes "line") then None ∷ line_kinds
-    else (if bytes_eq w (codes "move-vertex") then None ∷ Some kind.Vertex ∷ []
-    else (if bytes_eq w (codes "set-sector") || bytes_eq w (codes "door")
-    then None ∷ Some kind.Sector ∷ []
-    else (if bytes_eq w (codes "set-side") then None ∷ Some kind.Side ∷ side_kinds
-    else (if bytes_eq w (codes "set-line") then None ∷ Some kind.Line ∷ line_kinds
-    else (if bytes_eq w (codes "set-thing") then None ∷ Some kind.Thing ∷ []
-    else (if bytes_eq w (codes "split") then None ∷ Some kind.Line ∷ [] else [])))))))
+command_places w = numbers_at (head_of w) w
 
 -- the same of a command of these two first words: of one with a KIND, the third is a number of that
 abbrev pub wanted_by : List ℕ → List ℕ → List (Option Kind)

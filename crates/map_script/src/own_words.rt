@@ -3,24 +3,12 @@ ghost use Rattle.std.specs.Prelude.{◌≡◌, bytes_eq};
 ghost use Rattle.std.specs.List.{list_any};
 ghost use Rattle.map_script.specs.Own.{is_own_word};
 
-/// The first words of the lines of a script: no `let` gives one of them as a name.
+use map_commands::head_in;
+
+/// The first words of the lines of a script other than commands of the current map.
 pub const OWN_WORDS: &[&[u8]] = &[
-    b"name",
     b"map",
     b"drop-map",
-    b"vertex",
-    b"sector",
-    b"side",
-    b"line",
-    b"thing",
-    b"move-vertex",
-    b"set-sector",
-    b"set-side",
-    b"set-line",
-    b"set-thing",
-    b"drop",
-    b"room",
-    b"split",
     b"check",
     b"count",
     b"maps",
@@ -45,10 +33,10 @@ fn is_among(words: &[&[u8]], word: &[u8]) -> bool
     words.iter().any(|own| *own == word)
 }
 
-/// Whether a word is one of the script language itself.
+/// Whether a word is one of the script language itself: no `let` gives one of them as a name.
 #[tactic(auto, unfolding(crate::specs::Own::is_own_word))]
 pub fn is_own_word(word: &[u8]) -> bool
     ensures { result ≡ is_own_word word.now }
 {
-    is_among(OWN_WORDS, word)
+    head_in(word).is_some() || is_among(OWN_WORDS, word)
 }

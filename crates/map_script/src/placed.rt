@@ -2,7 +2,7 @@
 ghost use Rattle.std.specs.Prelude.{◌≡◌, ◌∷◌, [], drop, take, IfOk, IsOkUnless};
 ghost use Rattle.std.specs.Fmt.{signed_decimal};
 ghost use Rattle.std.specs.List.{join_with_byte};
-ghost use Rattle.map_script.specs.Placed.{angle_word, faces_east, is_unplaced, layout_of, placed_behind, placed_by, placed_corners, placed_looking, placed_pair, placed_text, placed_walls, placed_words, wall_words};
+ghost use Rattle.map_script.specs.Placed.{angle_word, faces_east, is_unplaced, layout_of, placed_behind, placed_by, placed_corners, placed_looking, placed_pair, placed_text, placed_walls, placed_words, shape_layout, wall_words};
 ghost use Rattle.map_script.specs.Texts.{with_each_word};
 ghost use Rattle.map_script.specs.Words.{text_words};
 ghost use Rattle.map_script.specs.declared.error.DrawError.TheVariants.{OutOfMemory};
@@ -12,19 +12,8 @@ use crate::placing::{Facing, Placing, placed_to, turned_angle};
 use crate::text::{copied, put_word, without_first};
 use crate::words::next_word;
 use lump_records::{GREATEST_COORDINATE, LEAST_COORDINATE, Vertex};
-use map_commands::number_in as number_in_range;
+use map_commands::{Layout, head_in, head_layout, number_in as number_in_range};
 use std::alloc::Global;
-
-/// How places stand among the words of a command.
-#[derive(Clone, Copy)]
-pub enum Layout {
-    /// X Y for each corner.
-    Corners,
-    /// X Y ANGLE.
-    Looking,
-    /// X1 Y1 X2 Y2, the lower left and the upper right corner of four walls.
-    Walls,
-}
 
 // A place as two words.
 #[derive(Drop)]
@@ -233,28 +222,26 @@ fn put_walls(
     put_words(text, behind)
 }
 
-// How many words of a command stand in front of its places, and how these stand.
-fn layout_of(word: &[u8]) -> Option<(usize, Layout)>
-    ensures { result ≡ layout_of word.now }
+// How many words of a shape stand in front of its places, and how these stand.
+fn shape_layout(word: &[u8]) -> Option<(usize, Layout)>
+    ensures { result ≡ shape_layout word.now }
 {
-    if word == b"vertex".as_slice() {
-        Some((0, Layout::Corners))
-    } else if word == b"thing".as_slice() {
-        Some((0, Layout::Looking))
-    } else if word == b"room".as_slice() {
-        Some((0, Layout::Walls))
-    } else if word == b"move-vertex".as_slice() {
-        Some((1, Layout::Corners))
-    } else if word == b"split".as_slice() {
-        Some((1, Layout::Corners))
-    } else if word == b"set-thing".as_slice() {
-        Some((1, Layout::Looking))
-    } else if word == b"pillar".as_slice() {
+    if word == b"pillar".as_slice() {
         Some((1, Layout::Corners))
     } else if word == b"area".as_slice() {
         Some((6, Layout::Corners))
     } else {
         None
+    }
+}
+
+// How many words of a line stand in front of its places, and how these stand.
+fn layout_of(word: &[u8]) -> Option<(usize, Layout)>
+    ensures { result ≡ layout_of word.now }
+{
+    match head_in(word) {
+        Some(head) => head_layout(head),
+        None => shape_layout(word),
     }
 }
 

@@ -1,7 +1,7 @@
 //! The numbers that references stand for: `$NAME`, `$NAME.KIND`, `$NAME.WALL` or `$KIND(X,Y)`, with or without `+N`.
 ghost use Rattle.std.specs.Prelude.{◌≡◌, ◌≤◌, ◌<◌, ◌+◌, ◌-◌, ◌*◌, ◌==◌, min, nat_le, if◌then◌else◌, ◌^◌, length, position, IfSome, option_copied};
 ghost use Rattle.std.specs.List.{list_all};
-ghost use Rattle.map_commands.specs.Grammar.{kind_of};
+ghost use Rattle.map_commands.specs.Spelling.{kind_of};
 ghost use Rattle.map_commands.specs.Words.{is_numeral};
 ghost use Rattle.map_script.specs.Known.{scope_of};
 ghost use Rattle.map_script.specs.Meant.{meant, meant_by, meant_in};

@@ -1,10 +1,10 @@
 //! Of what a number is the number, and the kinds of the numbers in each command.
 ghost use Rattle.std.specs.Prelude.{◌≡◌, ◌∷◌, ◌<◌, [], None, IfSome};
-ghost use Rattle.map_script.specs.Referents.{answered_kind, command_answer, command_places, referent_of, wall_place, wanted_by, wanted_in};
+ghost use Rattle.map_script.specs.Referents.{answered_kind, command_answer, command_places, numbers_at, referent_of, shape_answer, wall_place, wanted_by, wanted_in};
 ghost use Rattle.map_script.specs.Words.{text_words};
 
 use crate::words::first_word;
-use map_commands::kind_in;
+use map_commands::{head_answer, head_in, head_numbers, kind_in};
 use map_tables::Kind;
 
 /// Of what a number is the number.
@@ -25,6 +25,7 @@ pub struct Answer {
     pub kind: Option<Kind>,
 }
 
+// The number of an item, by its kind.
 const VERTEX: Option<Kind> = Some(Kind::Vertex);
 
 const SECTOR: Option<Kind> = Some(Kind::Sector);
@@ -35,26 +36,8 @@ const LINE: Option<Kind> = Some(Kind::Line);
 
 const THING: Option<Kind> = Some(Kind::Thing);
 
-// A first word, and the number of an item.
-const VERTEX_NUMBER: &[Option<Kind>] = &[None, VERTEX];
-
+// A first word, and the number of a sector.
 const SECTOR_NUMBER: &[Option<Kind>] = &[None, SECTOR];
-
-const LINE_NUMBER: &[Option<Kind>] = &[None, LINE];
-
-const THING_NUMBER: &[Option<Kind>] = &[None, THING];
-
-// side XO YO UP LOW MID SECTOR, and set-side SIDE ..
-const SIDE_FIELDS: &[Option<Kind>] = &[None, None, None, None, None, None, SECTOR];
-
-const SET_SIDE_FIELDS: &[Option<Kind>] = &[None, SIDE, None, None, None, None, None, SECTOR];
-
-// line V1 V2 FLAGS SPECIAL TAG RIGHT LEFT, and set-line LINE ..
-const LINE_FIELDS: &[Option<Kind>] = &[None, VERTEX, VERTEX, None, None, None, SIDE, SIDE];
-
-const SET_LINE_FIELDS: &[Option<Kind>] = &[
-    None, LINE, VERTEX, VERTEX, None, None, None, SIDE, SIDE,
-];
 
 // A first word, KIND and the number of an item.
 const KIND_VERTEX: &[Option<Kind>] = &[None, None, VERTEX];
@@ -97,30 +80,26 @@ impl Referent {
     }
 }
 
-// The kind of the item whose number the command answers that a word begins.
-fn command_answer(word: &[u8]) -> Option<Kind>
-    ensures { result ≡ command_answer word.now }
+// The kind of the item whose number a shape answers, by its first word.
+fn shape_answer(word: &[u8]) -> Option<Kind>
+    ensures { result ≡ shape_answer word.now }
 {
-    if word == b"vertex".as_slice() || word == b"move-vertex".as_slice() {
-        VERTEX
-    } else if word == b"side".as_slice() || word == b"set-side".as_slice() {
-        SIDE
-    } else if word == b"thing".as_slice() || word == b"set-thing".as_slice() {
-        THING
-    } else if word == b"line".as_slice()
-        || word == b"set-line".as_slice()
-        || word == b"split".as_slice()
-        || word == b"pillar".as_slice()
-    {
+    if word == b"pillar".as_slice() {
         LINE
-    } else if word == b"sector".as_slice()
-        || word == b"set-sector".as_slice()
-        || word == b"area".as_slice()
-        || word == b"door".as_slice()
-    {
+    } else if word == b"area".as_slice() || word == b"door".as_slice() {
         SECTOR
     } else {
         None
+    }
+}
+
+// The kind of the item whose number a line answers, by its first word.
+fn command_answer(word: &[u8]) -> Option<Kind>
+    ensures { result ≡ command_answer word.now }
+{
+    match head_in(word) {
+        Some(head) => head_answer(head),
+        None => shape_answer(word),
     }
 }
 
@@ -161,28 +140,24 @@ fn kind_and_number(kind: Option<Kind>) -> &'static [Option<Kind>]
     }
 }
 
-// The kinds of the items whose numbers the words of the command are that a word begins.
+// The kinds of the items whose numbers the words of a shape are, by its first word.
+fn shape_places(word: &[u8]) -> &'static [Option<Kind>]
+    ensures { result.now ≡ numbers_at None word.now }
+{
+    if word == b"door".as_slice() {
+        SECTOR_NUMBER
+    } else {
+        NO_PLACES
+    }
+}
+
+// The kinds of the items whose numbers the words of a line are, by its first word.
 fn command_places(word: &[u8]) -> &'static [Option<Kind>]
     ensures { result.now ≡ command_places word.now }
 {
-    if word == b"side".as_slice() {
-        SIDE_FIELDS
-    } else if word == b"line".as_slice() {
-        LINE_FIELDS
-    } else if word == b"move-vertex".as_slice() {
-        VERTEX_NUMBER
-    } else if word == b"set-sector".as_slice() || word == b"door".as_slice() {
-        SECTOR_NUMBER
-    } else if word == b"set-side".as_slice() {
-        SET_SIDE_FIELDS
-    } else if word == b"set-line".as_slice() {
-        SET_LINE_FIELDS
-    } else if word == b"set-thing".as_slice() {
-        THING_NUMBER
-    } else if word == b"split".as_slice() {
-        LINE_NUMBER
-    } else {
-        NO_PLACES
+    match head_in(word) {
+        Some(head) => head_numbers(head),
+        None => shape_places(word),
     }
 }
 
