@@ -6,11 +6,12 @@ use Rattle.map_script.specs.Defines.{define_words}
 use Rattle.map_script.specs.Lines.{command_words}
 use Rattle.map_script.specs.Words.{first_word, text_words}
 use Rattle.map_blocks.specs.Naming.{gives_anew}
-use Rattle.map_blocks.specs.declared.deeds.Deed.{Deed}
-use Rattle.map_blocks.specs.declared.deeds.Deed.TheVariants.{AddsSector, AddsThing, Draws, Frees, Reads, SetsThing, Turns}
+use Rattle.map_commands.specs.declared.deed.Deed.{Deed}
+use Rattle.map_commands.specs.declared.deed.Deed.TheVariants.{AddsSector, AddsThing, Draws, Frees, Reads, SetsThing, Turns}
 use Rattle.map_blocks.specs.declared.deeds.Ground.{Ground}
 use Rattle.map_blocks.specs.declared.deeds.Ground.TheVariants.{Anything, Drawn, MapNames, Nothing, Place, Sectors, Things}
-use Rattle.map_blocks.specs.declared.deeds.TheConstants.{DEEDS}
+use Rattle.map_blocks.specs.declared.deeds.TheConstants.{OTHER_DEEDS}
+use Rattle.map_commands.specs.declared.grammar.TheConstants.{DEEDS}
 
 -- ---- What a command does
 
@@ -89,7 +90,9 @@ deed_with d kind = d
 
 -- a word is one with which a command begins
 unfoldable pub is_known_word : List ℕ → Bool
-is_known_word word = list_any (λ d. bytes_eq d.0.now word) DEEDS.now
+is_known_word word =
+    list_any (λ d. bytes_eq d.0.now word) DEEDS.now
+    || list_any (λ d. bytes_eq d.0.now word) OTHER_DEEDS.now
 
 -- a word is meant as this one: it is the same, or, where it is none of those, it is near
 abbrev pub is_meant_as : List ℕ → List ℕ → Bool
@@ -98,12 +101,16 @@ is_meant_as word own =
 
 -- a word is meant as one with which a command begins
 unfoldable pub is_meant : List ℕ → Bool
-is_meant word = list_any (λ d. is_meant_as word d.0.now) DEEDS.now
+is_meant word =
+    list_any (λ d. is_meant_as word d.0.now) DEEDS.now
+    || list_any (λ d. is_meant_as word d.0.now) OTHER_DEEDS.now
 
 -- a command of these two first words, if they are meant so, could lift what was refused on a ground
 unfoldable pub command_lifts : Ground → List ℕ → List ℕ → Bool
 command_lifts cause first second =
     list_any (λ d. is_meant_as first d.0.now && can_lift cause (deed_with d.1 second)) DEEDS.now
+    || list_any (λ d. is_meant_as first d.0.now
+    && can_lift cause (deed_with d.1 second)) OTHER_DEEDS.now
 
 -- a shape's name, if there is one, is near to a word
 abbrev pub is_shape_near : List ℕ → Option (List (List ℕ)) → Bool

@@ -1,7 +1,9 @@
 -- Which refused lines of a script hang on others that were left out: once these are mended, they
 -- might not be refused (docs/COMMANDS.md, "Scripts"; README.md).
-use Rattle.std.specs.Prelude.{ℕ, Bool, false, true, ◌==◌, ◌||◌, ◌&&◌, not, nat_lt, if◌then◌else◌, List, [], ◌∷◌, bytes_eq, codes, get_or, length, take}
+use Rattle.std.specs.Prelude.{ℕ, Bool, false, true, ◌==◌, ◌||◌, ◌&&◌, not, nat_lt, if◌then◌else◌, List, [], ◌∷◌, Option, Some, None, bytes_eq, codes, get_or, length, take}
 use Rattle.std.specs.List.{list_all, list_any}
+use Rattle.map_commands.specs.Grammar.{head_of, head_puts_vertex}
+use Rattle.map_commands.specs.declared.grammar.Head.{Head}
 use Rattle.map_script.specs.Lines.{command_words}
 use Rattle.map_script.specs.Words.{first_word, text_words}
 use Rattle.map_blocks.specs.Deeds.{one_could_lift, one_frees}
@@ -32,10 +34,14 @@ are_settled places lines line blocks =
 abbrev pub command_word : List ℕ → List ℕ
 command_word line = first_word (command_words (text_words line))
 
+-- a command of this first word, if it is one, puts vertices at places of its own
+abbrev pub puts_vertex_at : Option Head → Bool
+puts_vertex_at None = false
+puts_vertex_at (Some h) = head_puts_vertex h
+
 -- a command that puts vertices at places of its own, whatever else is drawn
 abbrev pub puts_vertex : List ℕ → Bool
-puts_vertex word =
-    bytes_eq word (codes "vertex") || (bytes_eq word (codes "room") || bytes_eq word (codes "split"))
+puts_vertex word = puts_vertex_at (head_of word)
 
 -- these words alone are the reason, where they hang on no map
 abbrev pub is_of_plain_words : ℕ → List ℕ → Bool

@@ -5,10 +5,11 @@ use Rattle.std.specs.List.{before_first, list_any}
 use Rattle.map_commands.specs.Errors.{code_of}
 use Rattle.map_commands.specs.Places.{Number, place_fault}
 use Rattle.map_commands.specs.declared.error.CommandError.TheVariants.{OutOfRange}
+use Rattle.map_commands.specs.declared.grammar.TheConstants.{FORMS}
 use Rattle.map_script.specs.Defines.{are_as_many}
 use Rattle.map_script.specs.Lines.{command_words}
 use Rattle.map_script.specs.Words.{first_word, text_words}
-use Rattle.map_blocks.specs.declared.ranges.TheConstants.{FORMS, RANGES}
+use Rattle.map_blocks.specs.declared.ranges.TheConstants.{QUERY_FORMS, RANGES}
 
 -- the fault of a word at its place is that it is out of range
 abbrev pub is_range_fault : Option ℕ → Bool
@@ -44,10 +45,12 @@ abbrev pub is_form_of : List (List ℕ) → List (List ℕ) → Bool
 is_form_of form ws = bytes_eq (first_word form) (first_word ws) && are_as_many form ws
 
 -- a line has a number that is out of its range: in a word NAME=VALUE of a `change`, or at a place of a
--- command of one of the forms
+-- command or a query of one of the forms
 unfoldable pub has_outside : List ℕ → Bool
 has_outside line =
     let ws = command_words (text_words line) in
     if bytes_eq (first_word ws) (codes "change") then list_any is_field_outside ws
-    else list_any (λ f. is_form_of (text_words f.now) ws
+    else (list_any (λ f. is_form_of (text_words f.now) ws
     && one_outside (text_words f.now) ws) FORMS.now
+    || list_any (λ f. is_form_of (text_words f.now) ws
+    && one_outside (text_words f.now) ws) QUERY_FORMS.now)

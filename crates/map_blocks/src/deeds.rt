@@ -5,26 +5,8 @@ ghost use Rattle.map_blocks.specs.Naming.{gives_anew};
 ghost use Rattle.map_blocks.specs.Deeds.{are_near, begin_exchanged, can_lift, command_lifts, could_lift, deed_with, defines_near, freed, frees_place, is_any_word, is_ground, is_known_word, is_meant, is_meant_as, may_add_sector, may_add_thing, may_change, may_draw, may_free, may_turn, one_could_lift, one_defines_near, one_frees};
 
 use crate::mentioning::gives_anew;
+use map_commands::{DEEDS, Deed};
 use map_script::{ScriptLines, command_of, define_words, first_word};
-
-/// What a command does to the maps.
-#[derive(Clone, Copy)]
-pub enum Deed {
-    /// Nothing.
-    Reads,
-    /// It adds a sector, and perhaps other items than things.
-    AddsSector,
-    /// It adds a thing.
-    AddsThing,
-    /// It changes a thing, or takes one away.
-    SetsThing,
-    /// It adds or changes other items than things, and frees the place of no vertex.
-    Draws,
-    /// It may free the place of a vertex.
-    Frees,
-    /// It may make another map the current one, or give one another name.
-    Turns,
-}
 
 /// What a line was refused for, so far as earlier lines can be the reason.
 #[derive(Clone, Copy)]
@@ -45,24 +27,8 @@ pub enum Ground {
     Anything,
 }
 
-/// What the commands do that begin with these words, and the other lines of a script.
-pub const DEEDS: &[(&[u8], Deed)] = &[
-    (b"name", Deed::Turns),
-    (b"map", Deed::Turns),
-    (b"drop-map", Deed::Turns),
-    (b"vertex", Deed::Draws),
-    (b"sector", Deed::AddsSector),
-    (b"side", Deed::Draws),
-    (b"line", Deed::Draws),
-    (b"thing", Deed::AddsThing),
-    (b"move-vertex", Deed::Frees),
-    (b"set-sector", Deed::Draws),
-    (b"set-side", Deed::Draws),
-    (b"set-line", Deed::Draws),
-    (b"set-thing", Deed::SetsThing),
-    (b"drop", Deed::Frees),
-    (b"room", Deed::AddsSector),
-    (b"split", Deed::Draws),
+/// What the other lines of a script do than commands of a project, by their first words.
+pub const OTHER_DEEDS: &[(&[u8], Deed)] = &[
     (b"area", Deed::AddsSector),
     (b"pillar", Deed::Draws),
     (b"door", Deed::Draws),
@@ -230,7 +196,7 @@ fn is_among(deeds: &[(&[u8], Deed)], word: &[u8]) -> bool
 fn is_known_word(word: &[u8]) -> bool
     ensures { result ≡ is_known_word word.now }
 {
-    is_among(DEEDS, word)
+    is_among(DEEDS, word) || is_among(OTHER_DEEDS, word)
 }
 
 // Whether a word is meant as one of the language.
@@ -252,7 +218,7 @@ fn is_meant_among(deeds: &[(&[u8], Deed)], word: &[u8]) -> bool
 fn is_meant(word: &[u8]) -> bool
     ensures { result ≡ is_meant word.now }
 {
-    is_meant_among(DEEDS, word)
+    is_meant_among(DEEDS, word) || is_meant_among(OTHER_DEEDS, word)
 }
 
 // Whether a command, if it is one of these, could lift what was refused on a ground.
@@ -268,7 +234,7 @@ fn lifts_among(deeds: &[(&[u8], Deed)], cause: Ground, first: &[u8], second: &[u
 fn command_lifts(cause: Ground, first: &[u8], second: &[u8]) -> bool
     ensures { result ≡ command_lifts cause first.now second.now }
 {
-    lifts_among(DEEDS, cause, first, second)
+    lifts_among(DEEDS, cause, first, second) || lifts_among(OTHER_DEEDS, cause, first, second)
 }
 
 // Whether a line defines a shape whose name is near to a word.

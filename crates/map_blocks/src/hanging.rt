@@ -9,6 +9,7 @@ use crate::deeds::{Ground, one_could_lift, one_frees};
 use crate::mentioning::{are_sums_settled, is_settled, mentions_given, mentions_unknown};
 use crate::ranges::has_outside;
 use crate::stop::{OpenBlock, Stop};
+use map_commands::{head_in, head_puts_vertex};
 use map_script::{ScriptLines, closes, command_of, first_word, opens};
 
 // How many bytes a line has at most that is looked at: a longer one hangs on any other.
@@ -69,7 +70,10 @@ fn command_word(line: &[u8]) -> &[u8]
 fn puts_vertex(word: &[u8]) -> bool
     ensures { result ≡ puts_vertex word.now }
 {
-    word == b"vertex".as_slice() || word == b"room".as_slice() || word == b"split".as_slice()
+    match head_in(word) {
+        Some(head) => head_puts_vertex(head),
+        None => false,
+    }
 }
 
 // Whether words that hang on no map are the reason of a refusal alone.

@@ -17,5 +17,5 @@ pub use deeds::are_near;
 pub use defined::{Shape, shape_called, shapes_in};
 pub use hanging::{ends_telling, hangs};
 pub use leaving::{files_without, lines_without};
-pub use ranges::{FORMS, RANGES};
+pub use ranges::{QUERY_FORMS, RANGES};
 pub use stop::{OpenBlock, Stop};

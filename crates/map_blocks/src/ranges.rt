@@ -1,4 +1,4 @@
-//! The forms of commands, the ranges of their numbers, and lines with a number that is out of its range.
+//! The forms of queries, the ranges of the numbers in commands, and lines with a number that is out of its range.
 ghost use Rattle.std.specs.Prelude.{◌≡◌, ◌+◌, ◌==◌, ◌&&◌, ◌||◌, bytes_eq, drop};
 ghost use Rattle.std.specs.List.{before_first, list_any};
 ghost use Rattle.map_script.specs.Lines.{command_words};
@@ -6,33 +6,11 @@ ghost use Rattle.map_script.specs.Words.{first_word, text_words};
 ghost use Rattle.map_blocks.specs.Ranges.{field_name, has_outside, is_field_outside, is_form_of, is_number_outside, is_out_of_range, one_outside};
 
 use crate::wording::{are_as_many, next_word};
-use map_commands::{CommandError, number_in};
+use map_commands::{CommandError, FORMS, number_in};
 use map_script::{command_of, first_word};
 
-/// The form of each command and each query: its first word, then a name for each further word.
-pub const FORMS: &[&[u8]] = &[
-    b"name MARKER",
-    b"map MARKER",
-    b"drop-map MARKER",
-    b"vertex X Y",
-    b"sector F C FN CN LIGHT SPECIAL TAG",
-    b"side XO YO UP LOW MID SECTOR",
-    b"line V1 V2 FLAGS SPECIAL TAG RIGHT LEFT",
-    b"thing X Y ANGLE TYPE OPTIONS",
-    b"move-vertex VERTEX X Y",
-    b"set-sector SECTOR F C FN CN LIGHT SPECIAL TAG",
-    b"set-side SIDE XO YO UP LOW MID SECTOR",
-    b"set-line LINE V1 V2 FLAGS SPECIAL TAG RIGHT LEFT",
-    b"set-thing THING X Y ANGLE TYPE OPTIONS",
-    b"drop KIND NUMBER",
-    b"room X1 Y1 X2 Y2 F C FN CN WALL LIGHT",
-    b"split LINE X Y",
-    b"check",
-    b"count",
-    b"maps",
-    b"build",
-    b"hex LUMP",
-];
+/// The form of each query: its first word, then a name for each further word.
+pub const QUERY_FORMS: &[&[u8]] = &[b"check", b"count", b"maps", b"build", b"hex LUMP"];
 
 /// The least and the greatest number for each name in a form, or in `NAME=VALUE`, that stands for a number.
 pub const RANGES: &[(&[u8], i16, i16)] = &[
@@ -186,6 +164,6 @@ pub fn has_outside(line: &[u8]) -> bool
     if first_word(command).0 == b"change".as_slice() {
         one_field_outside(command)
     } else {
-        is_outside_in(FORMS, command)
+        is_outside_in(FORMS, command) || is_outside_in(QUERY_FORMS, command)
     }
 }
