@@ -3,8 +3,8 @@ use crate::calling::says;
 use crate::forms::{form_near, form_of, range_at, text_of};
 use crate::reasons::reason_of;
 use crate::unfit::form_meant;
-use map_blocks::{FORMS, Stop};
-use map_commands::CommandError;
+use map_blocks::{QUERY_FORMS, Stop};
+use map_commands::{CommandError, FORMS};
 use map_script::{
     Names, ScriptLines, at_words, closes, define_words, defined_name, let_words, loop_words,
     script_lines,
@@ -76,13 +76,20 @@ pub fn explain(alloc: Global, maps: &Maps, line: &[u8], code: u16) -> Result<Str
     }
 }
 
-// The forms of all commands and queries, and how to leave.
-fn all_forms(alloc: Global) -> Result<String, AllocError> {
-    let mut told = String::new(alloc);
-    for form in FORMS {
+// Appends some forms, each on a line.
+fn put_forms(told: &mut String, forms: &[&'static [u8]]) -> Result<(), AllocError> {
+    for form in forms {
         told.push_str(text_of(form))?;
         told.push_str("\n")?;
     }
+    Ok(())
+}
+
+// The forms of all commands and queries, and how to leave.
+fn all_forms(alloc: Global) -> Result<String, AllocError> {
+    let mut told = String::new(alloc);
+    put_forms(&mut told, FORMS)?;
+    put_forms(&mut told, QUERY_FORMS)?;
     told.push_str(WAYS_OUT)?;
     Ok(told)
 }

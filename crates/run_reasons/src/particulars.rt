@@ -1,7 +1,7 @@
 //! Which item of the map a command meets that is refused.
 use crate::calling::says;
 use lump_records::{LONGEST_SQUARED, Line, Vertex, squared_distance};
-use map_commands::{Command, ProjectCommand, parse};
+use map_commands::{Command, ProjectCommand, RoomPlan, parse};
 use map_tables::{Edit, Item, Kind, Map, Maps};
 use std::alloc::{AllocError, Global};
 use std::str;
@@ -62,6 +62,69 @@ pub fn in_use(alloc: Global, map: &Map, text: &str) -> Result<String, AllocError
         },
         _ => says(alloc, 8),
     }
+}
+
+// The vertex that stands at a place, if there is one.
+fn vertex_at(map: &Map, at: Vertex) -> Option<u32> {
+    for n in 0..map.count(Kind::Vertex) {
+        if let Some(vertex) = map.vertex(n) {
+            if vertex.x == at.x && vertex.y == at.y {
+                return Some(n);
+            }
+        }
+    }
+    None
+}
+
+// The first corner of a room at which a vertex stands; if there is none, the first corner.
+fn taken_corner(map: &Map, plan: &RoomPlan) -> Vertex {
+    let corners = [
+        Vertex {
+            x: plan.west,
+            y: plan.south,
+        },
+        Vertex {
+            x: plan.west,
+            y: plan.north,
+        },
+        Vertex {
+            x: plan.east,
+            y: plan.north,
+        },
+        Vertex {
+            x: plan.east,
+            y: plan.south,
+        },
+    ];
+    for corner in corners {
+        if vertex_at(map, corner).is_some() {
+            return corner;
+        }
+    }
+    corners[0]
+}
+
+// The place for which a command would add or move a vertex, and where another one may stand.
+fn wanted_place(map: &Map, text: &str) -> Option<Vertex> {
+    match command_in(text)? {
+        Command::Edit(Edit::Add(Item::Vertex(at))) => Some(at),
+        Command::Edit(Edit::Set(_, Item::Vertex(at))) => Some(at),
+        Command::Split(split) => Some(split.at),
+        Command::Room(plan) => Some(taken_corner(map, &plan)),
+        _ => None,
+    }
+}
+
+/// Says which vertex stands at the place for which a command would add or move one.
+pub fn taken(alloc: Global, map: &Map, text: &str) -> Result<String, AllocError> {
+    if let Some(at) = wanted_place(map, text) {
+        if let Some(n) = vertex_at(map, at) {
+            let x = at.x;
+            let y = at.y;
+            return format!(in alloc; "vertex {n} stands at {x} {y}");
+        }
+    }
+    says(alloc, 10)
 }
 
 // Whether a line between two places is too long.

@@ -6,18 +6,17 @@ use crate::call_reasons::{called_at, reason_of_call};
 use crate::calling::says;
 use crate::forms::{count_words, first_word, form_near, form_of, range_at};
 use crate::kind_reasons::{nothing_added, other_kind};
-use crate::particulars::{in_use, map_names, too_long};
+use crate::particulars::{in_use, map_names, taken, too_long};
 use crate::shape_reasons::{decide, meant_shape, places_of, shape_near};
 use crate::unfit::{form_meant, unfit};
-use lump_records::{Vertex, is_marker, is_name};
+use lump_records::{is_marker, is_name};
 use map_blocks::Stop;
-use map_commands::{Command, ProjectCommand, RoomPlan, parse};
 use map_script::{
     DrawError, Names, ScriptLine, ScriptLines, at_words, define_words, let_words, loop_words,
     resolve,
 };
 use map_shapes::{ShapeError, ShapeHead, shape_head_in};
-use map_tables::{Edit, Item, Kind, Map, Maps};
+use map_tables::{Kind, Map, Maps};
 use run_edit::read_query;
 use std::alloc::{AllocError, Global};
 use std::str;
@@ -130,69 +129,6 @@ fn says_shape(alloc: Global, error: &ShapeError) -> Result<String, AllocError> {
 fn counted(alloc: Global, map: &Map, kind: Kind, items: &str) -> Result<String, AllocError> {
     let count = map.count(kind);
     format!(in alloc; "{items} of the map: {count}, numbered from 0")
-}
-
-// The vertex that stands at a place, if there is one.
-fn vertex_at(map: &Map, at: Vertex) -> Option<u32> {
-    for n in 0..map.count(Kind::Vertex) {
-        if let Some(vertex) = map.vertex(n) {
-            if vertex.x == at.x && vertex.y == at.y {
-                return Some(n);
-            }
-        }
-    }
-    None
-}
-
-// The first corner of a room at which a vertex stands; if there is none, the first corner.
-fn taken_corner(map: &Map, plan: &RoomPlan) -> Vertex {
-    let corners = [
-        Vertex {
-            x: plan.west,
-            y: plan.south,
-        },
-        Vertex {
-            x: plan.west,
-            y: plan.north,
-        },
-        Vertex {
-            x: plan.east,
-            y: plan.north,
-        },
-        Vertex {
-            x: plan.east,
-            y: plan.south,
-        },
-    ];
-    for corner in corners {
-        if vertex_at(map, corner).is_some() {
-            return corner;
-        }
-    }
-    corners[0]
-}
-
-// The place for which a command would add or move a vertex, and where another one may stand.
-fn wanted_place(map: &Map, text: &str) -> Option<Vertex> {
-    match parse(text.as_bytes()) {
-        Ok(ProjectCommand::Current(Command::Edit(Edit::Add(Item::Vertex(at))))) => Some(at),
-        Ok(ProjectCommand::Current(Command::Edit(Edit::Set(_, Item::Vertex(at))))) => Some(at),
-        Ok(ProjectCommand::Current(Command::Split(split))) => Some(split.at),
-        Ok(ProjectCommand::Current(Command::Room(plan))) => Some(taken_corner(map, &plan)),
-        _ => None,
-    }
-}
-
-// Says which vertex stands at the place for which a command would add or move one.
-fn taken(alloc: Global, map: &Map, text: &str) -> Result<String, AllocError> {
-    if let Some(at) = wanted_place(map, text) {
-        if let Some(n) = vertex_at(map, at) {
-            let x = at.x;
-            let y = at.y;
-            return format!(in alloc; "vertex {n} stands at {x} {y}");
-        }
-    }
-    says(alloc, 10)
 }
 
 // Says what was wrong with a line whose names are resolved.
