@@ -1,14 +1,13 @@
 -- Each item of the maps has an origin, also after a command.
-use Rattle.std.proofs.Common.{◌≡◌, ◌∙◌, ℕ, zero, suc, ◌+◌, ◌<◌, ◌≤◌, Bool, true, false, List, [], ◌∷◌, ◌++◌, length, map, get_or, take, drop, refl, sym, ap, ap₂, arith}
+use Rattle.std.proofs.Common.{◌≡◌, ◌∙◌, ℕ, zero, suc, ◌+◌, ◌<◌, ◌≤◌, Bool, true, false, List, [], ◌∷◌, ◌++◌, Option, None, Some, length, map, get_or, take, drop, refl, sym, ap, ap₂, arith}
 use Rattle.std.specs.Prelude.{◌-◌, if◌then◌else◌, is_ok, IsOk, IfErr, IfOk, MatchResult, Result, Ok, Err, Vec, remove, replicate, slice_set, vec_capacity, vec_len}
 use Rattle.std.specs.Global.{Global}
-use Rattle.std.proofs.lemmas.List.{append-nil, drop-map, drop_all, get_or-map, length-append, length-map, length-replicate, length-set, map-append, map-set, set-get_or, take-map, take_all}
+use Rattle.std.proofs.lemmas.List.{append-nil, drop-map, drop_all, get_or-map, length-append, length-map, length-replicate, map-append, map-set, set-get_or, take-map, take_all}
 use Rattle.map_commands.specs.ProjectStep.{project_after}
-use Rattle.map_commands.specs.Rooms.{corners, room_sector, room_sides, walls}
-use Rattle.map_commands.specs.Splits.{cut_off, cut_short, line_or_some}
-use Rattle.map_commands.specs.Step.{after, need_of}
+use Rattle.map_commands.proofs.Commands.{counted}
+use Rattle.map_commands.proofs.Counts.{Counted, need_at}
+use Rattle.map_commands.specs.Step.{after, dropped_of, need_of}
 use Rattle.map_commands.specs.declared.command.Command.{Command}
-use Rattle.map_commands.specs.declared.command.Command.TheVariants.{Name, Edit, Room, Split}
 use Rattle.map_commands.specs.declared.project.command.ProjectCommand.{ProjectCommand}
 use Rattle.map_commands.specs.declared.project.command.ProjectCommand.TheVariants.{Current, SelectMap, DropMap}
 use Rattle.map_tables.specs.Edits.{line_without_side, line_without_vertex, side_without_sector, with_name, without}
@@ -17,13 +16,11 @@ use Rattle.map_commands.specs.ProjectCommands.{InProjectRange, project_spelling}
 use Rattle.map_commands.specs.declared.error.CommandError.{CommandError}
 use Rattle.run_edit.specs.Answers.{outcome_of}
 use Rattle.map_tables.specs.Tables.{Tables, count_of, empty_tables}
-use Rattle.map_tables.specs.declared.edit.Edit.TheVariants.{Add, Set, Drop}
-use Rattle.map_tables.specs.declared.edit.Item.TheVariants as item
 use Rattle.map_tables.specs.declared.edit.Need.{Need}
 use Rattle.map_tables.specs.declared.kind.Kind.{Kind}
 use Rattle.map_tables.specs.declared.kind.Kind.TheVariants as kind
 use Rattle.run_canvas.specs.OriginFields.{item_origins}
-use Rattle.run_canvas.specs.Origins.{HasEachOrigin, ItemOrigins, NotesOrigins, OriginMaps, all_origins_after, no_origins, origin_count, origins_after, origins_by, with_origins, without_origin}
+use Rattle.run_canvas.specs.Origins.{HasEachOrigin, ItemOrigins, NotesOrigins, OriginMaps, all_origins_after, no_origins, origin_count, origins_after, origins_with, with_origins, without_origin}
 use Rattle.run_canvas.specs.declared.map_origins.MapOrigins.{MapOrigins}
 
 -- ---- Lists
@@ -57,13 +54,6 @@ put_is list new n count place (Err e) is room put succeeds = cc (succeeds (omega
 
 -- ---- The items of a map
 
-abbrev need_at : Need → Kind → ℕ
-need_at need kind.Vertex = need.vertices
-need_at need kind.Sector = need.sectors
-need_at need kind.Side = need.sides
-need_at need kind.Line = need.lines
-need_at need kind.Thing = need.things
-
 more : (xs : List ℕ) (n place : ℕ) → length (xs ++ replicate n place) ≡ length xs + n
 more xs n place = length-append xs (replicate n place) ∙ ap (λ (m : ℕ). length xs + m) (length-replicate n place)
 
@@ -80,88 +70,6 @@ named_each m name kind.Sector = refl
 named_each m name kind.Side = refl
 named_each m name kind.Line = refl
 named_each m name kind.Thing = refl
-
--- a command that removes nothing
-abbrev counts : (m : Tables) (c : Command) (k : Kind) → Type 0
-counts m c k = count_of (after m c) k ≡ count_of m k + need_at (need_of c) k
-
-name_each : (m : Tables) (name : _) (k : Kind) → counts m (Name name) k
-name_each m name kind.Vertex = omega arith
-name_each m name kind.Sector = omega arith
-name_each m name kind.Side = omega arith
-name_each m name kind.Line = omega arith
-name_each m name kind.Thing = omega arith
-
-add_each : (m : Tables) (i : _) (k : Kind) → counts m (Edit (Add i)) k
-add_each m (item.Vertex x) kind.Vertex = length-append m.vertices (x ∷ [])
-add_each m (item.Vertex x) kind.Sector = omega arith
-add_each m (item.Vertex x) kind.Side = omega arith
-add_each m (item.Vertex x) kind.Line = omega arith
-add_each m (item.Vertex x) kind.Thing = omega arith
-add_each m (item.Sector x) kind.Vertex = omega arith
-add_each m (item.Sector x) kind.Sector = length-append m.sectors (x ∷ [])
-add_each m (item.Sector x) kind.Side = omega arith
-add_each m (item.Sector x) kind.Line = omega arith
-add_each m (item.Sector x) kind.Thing = omega arith
-add_each m (item.Side x) kind.Vertex = omega arith
-add_each m (item.Side x) kind.Sector = omega arith
-add_each m (item.Side x) kind.Side = length-append m.sides (x ∷ [])
-add_each m (item.Side x) kind.Line = omega arith
-add_each m (item.Side x) kind.Thing = omega arith
-add_each m (item.Line x) kind.Vertex = omega arith
-add_each m (item.Line x) kind.Sector = omega arith
-add_each m (item.Line x) kind.Side = omega arith
-add_each m (item.Line x) kind.Line = length-append m.lines (x ∷ [])
-add_each m (item.Line x) kind.Thing = omega arith
-add_each m (item.Thing x) kind.Vertex = omega arith
-add_each m (item.Thing x) kind.Sector = omega arith
-add_each m (item.Thing x) kind.Side = omega arith
-add_each m (item.Thing x) kind.Line = omega arith
-add_each m (item.Thing x) kind.Thing = length-append m.things (x ∷ [])
-
-set_each : (m : Tables) (n : ℕ) (i : _) (k : Kind) → counts m (Edit (Set n i)) k
-set_each m n (item.Vertex x) kind.Vertex = let same = length-set m.vertices n x in omega (arith, same)
-set_each m n (item.Vertex x) kind.Sector = omega arith
-set_each m n (item.Vertex x) kind.Side = omega arith
-set_each m n (item.Vertex x) kind.Line = omega arith
-set_each m n (item.Vertex x) kind.Thing = omega arith
-set_each m n (item.Sector x) kind.Vertex = omega arith
-set_each m n (item.Sector x) kind.Sector = let same = length-set m.sectors n x in omega (arith, same)
-set_each m n (item.Sector x) kind.Side = omega arith
-set_each m n (item.Sector x) kind.Line = omega arith
-set_each m n (item.Sector x) kind.Thing = omega arith
-set_each m n (item.Side x) kind.Vertex = omega arith
-set_each m n (item.Side x) kind.Sector = omega arith
-set_each m n (item.Side x) kind.Side = let same = length-set m.sides n x in omega (arith, same)
-set_each m n (item.Side x) kind.Line = omega arith
-set_each m n (item.Side x) kind.Thing = omega arith
-set_each m n (item.Line x) kind.Vertex = omega arith
-set_each m n (item.Line x) kind.Sector = omega arith
-set_each m n (item.Line x) kind.Side = omega arith
-set_each m n (item.Line x) kind.Line = let same = length-set m.lines n x in omega (arith, same)
-set_each m n (item.Line x) kind.Thing = omega arith
-set_each m n (item.Thing x) kind.Vertex = omega arith
-set_each m n (item.Thing x) kind.Sector = omega arith
-set_each m n (item.Thing x) kind.Side = omega arith
-set_each m n (item.Thing x) kind.Line = omega arith
-set_each m n (item.Thing x) kind.Thing = let same = length-set m.things n x in omega (arith, same)
-
-room_each : (m : Tables) (r : _) (k : Kind) → counts m (Room r) k
-room_each m r kind.Vertex = length-append m.vertices (corners r)
-room_each m r kind.Sector = length-append m.sectors (room_sector r ∷ [])
-room_each m r kind.Side = length-append m.sides (room_sides r (length m.sectors))
-room_each m r kind.Line = length-append m.lines (walls (length m.vertices) (length m.sides))
-room_each m r kind.Thing = omega arith
-
-split_each : (m : Tables) (s : _) (k : Kind) → counts m (Split s) k
-split_each m s kind.Vertex = length-append m.vertices (s.at ∷ [])
-split_each m s kind.Sector = omega arith
-split_each m s kind.Side = omega arith
-split_each m s kind.Line =
-    let line = line_or_some m.lines s.line in
-    let vertex = length m.vertices in
-    length-append (slice_set m.lines s.line (cut_short line vertex)) (cut_off line vertex ∷ []) ∙ ap (λ (n : ℕ). n + 1) (length-set m.lines s.line (cut_short line vertex))
-split_each m s kind.Thing = omega arith
 
 drop_each : (m : Tables) (o : ItemOrigins) (j : Kind) (n : ℕ) (k : Kind) → ((k : Kind) → origin_count o k ≡ count_of m k) → origin_count (without_origin o j n) k ≡ count_of (without m j n) k
 drop_each m o kind.Vertex n kind.Vertex same = length-remove_same o.vertices m.vertices n (same kind.Vertex)
@@ -190,18 +98,14 @@ drop_each m o kind.Thing n kind.Side same = same kind.Side
 drop_each m o kind.Thing n kind.Line same = same kind.Line
 drop_each m o kind.Thing n kind.Thing same = length-remove_same o.things m.things n (same kind.Thing)
 
-added_each : (m : Tables) (o : ItemOrigins) (c : Command) (place : ℕ) (k : Kind) → counts m c k → origin_count o k ≡ count_of m k
-    → origin_count (with_origins o (need_of c) place) k ≡ count_of (after m c) k
-added_each m o c place k is same = with_each o (need_of c) place k ∙ ap (λ (n : ℕ). n + need_at (need_of c) k) same ∙ sym is
-
 -- each item of a map has an origin after a command
+map_with : (m : Tables) (o : ItemOrigins) (c : Command) (place : ℕ) (k : Kind) (dropped : Option (Kind × ℕ)) → Counted m c dropped → ((k : Kind) → origin_count o k ≡ count_of m k)
+    → origin_count (origins_with o dropped (need_of c) place) k ≡ count_of (after m c) k
+map_with m o c place k None counts same = with_each o (need_of c) place k ∙ ap (λ (n : ℕ). n + need_at (need_of c) k) (same k) ∙ sym (counts k)
+map_with m o c place k (Some d) counts same = drop_each m o d.0 d.1 k same ∙ sym (ap (λ (t : Tables). count_of t k) counts.0)
+
 map_each : (m : Tables) (o : ItemOrigins) (c : Command) (place : ℕ) (k : Kind) → ((k : Kind) → origin_count o k ≡ count_of m k) → origin_count (origins_after o c place) k ≡ count_of (after m c) k
-map_each m o (Name name) place k same = added_each m o (Name name) place k (name_each m name k) (same k)
-map_each m o (Edit (Add i)) place k same = added_each m o (Edit (Add i)) place k (add_each m i k) (same k)
-map_each m o (Edit (Set n i)) place k same = added_each m o (Edit (Set n i)) place k (set_each m n i k) (same k)
-map_each m o (Edit (Drop j n)) place k same = drop_each m o j n k same
-map_each m o (Room r) place k same = added_each m o (Room r) place k (room_each m r k) (same k)
-map_each m o (Split s) place k same = added_each m o (Split s) place k (split_each m s k) (same k)
+map_each m o c place k same = map_with m o c place k (dropped_of c) (counted m c) same
 
 -- ---- All maps
 

@@ -1,15 +1,13 @@
 -- The origins of the items of maps: for each item the place of the line that added it, among the
 -- lines of a script, from 0 (docs/COMMANDS.md, "Scripts in place of a project").
-use Rattle.std.specs.Prelude.{◌≡◌, ℕ, true, false, if◌then◌else◌, List, [], ◌∷◌, ◌++◌, get_or, length, map, remove, replicate, slice_get, slice_set, Option, None, Result, Ok, Err}
+use Rattle.std.specs.Prelude.{◌≡◌, ℕ, true, false, if◌then◌else◌, List, [], ◌∷◌, ◌++◌, get_or, length, map, remove, replicate, slice_get, slice_set, Option, None, Some, Result, Ok, Err}
 use Rattle.map_commands.specs.ProjectCommands.{InProjectRange, project_spelling}
-use Rattle.map_commands.specs.Step.{need_of}
+use Rattle.map_commands.specs.Step.{dropped_of, need_of}
 use Rattle.map_commands.specs.declared.command.Command.{Command}
-use Rattle.map_commands.specs.declared.command.Command.TheVariants.{Name, Edit, Room, Split}
 use Rattle.map_commands.specs.declared.project.command.ProjectCommand.{ProjectCommand}
 use Rattle.map_commands.specs.declared.project.command.ProjectCommand.TheVariants.{Current, SelectMap, DropMap}
 use Rattle.map_tables.specs.Projects.{ProjectMaps, has_map, map_number_of}
 use Rattle.map_tables.specs.Tables.{Tables, count_of}
-use Rattle.map_tables.specs.declared.edit.Edit.TheVariants.{Add, Set, Drop}
 use Rattle.map_tables.specs.declared.edit.Need.{Need}
 use Rattle.map_tables.specs.declared.kind.Kind.{Kind}
 use Rattle.map_tables.specs.declared.kind.Kind.TheVariants as kind
@@ -56,14 +54,15 @@ without_origin o kind.Side n = record o { sides = remove o.sides n }
 without_origin o kind.Line n = record o { lines = remove o.lines n }
 without_origin o kind.Thing n = record o { things = remove o.things n }
 
+-- those of what a command of the line at a place leaves: the item that it drops takes its origin along,
+-- or else what it adds has this place as its origin
+abbrev pub origins_with : ItemOrigins → Option (Kind × ℕ) → Need → ℕ → ItemOrigins
+origins_with o None need place = with_origins o need place
+origins_with o (Some dropped) need place = without_origin o dropped.0 dropped.1
+
 -- the origins after a command of the line at a place: what it adds has this one, and all others stay
 abbrev pub origins_after : ItemOrigins → Command → ℕ → ItemOrigins
-origins_after o (Name name) place = with_origins o (need_of (Name name)) place
-origins_after o (Edit (Add item)) place = with_origins o (need_of (Edit (Add item))) place
-origins_after o (Edit (Set n item)) place = with_origins o (need_of (Edit (Set n item))) place
-origins_after o (Edit (Drop k n)) place = without_origin o k n
-origins_after o (Room plan) place = with_origins o (need_of (Room plan)) place
-origins_after o (Split split) place = with_origins o (need_of (Split split)) place
+origins_after o c place = origins_with o (dropped_of c) (need_of c) place
 
 -- ---- The maps of a project
 
