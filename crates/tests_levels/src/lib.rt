@@ -24,8 +24,12 @@ mod pwad;
 #[cfg(test)]
 mod rebuilt;
 #[cfg(test)]
+mod rows;
+#[cfg(test)]
 mod segs;
 #[cfg(test)]
 mod tangle;
 #[cfg(test)]
 mod tangles;
+#[cfg(test)]
+mod wads;

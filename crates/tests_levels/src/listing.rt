@@ -1,50 +1,39 @@
 //! The names of a WAD's levels.
 
-use crate::drawing::{ROOM, drawn};
-use crate::expect::same;
-use lump_records::Name8;
+use crate::drawing::drawn;
+use crate::rows::{expect_rows, said};
+use crate::wads::bytes_of;
 use std::alloc::Global;
 use std::test::Fail;
-use wad_build::{ReadError, build_all, level_names};
+use wad_build::{build_all, level_names};
 
-// Bytes without a level, and why listing their levels is refused, if it is.
-const LISTED: &[(&[u8], Option<ReadError>)] = &[
-    (b"PWAD\0\0\0\0\x0c\0\0\0", None),
-    (
-        b"IWAD\x01\0\0\0\x0c\0\0\0",
-        Some(ReadError::DirectoryOutside),
-    ),
-    (b"PWAD\0\0\0\0\x0c\0\0", Some(ReadError::NotAWad)),
-];
-
-// How many levels the bytes have, or why listing them is refused.
-fn listed(alloc: Global, wad: &[u8]) -> (usize, Option<ReadError>) {
-    match level_names(alloc, wad) {
-        Ok(names) => (names.len(), None),
-        Err(error) => (0, Some(error)),
+// The names of the levels of all maps that the lines draw, as they stand in the directory.
+fn listed(alloc: Global, lines: &str) -> Result<String, Fail> {
+    let maps = drawn(alloc, lines)?;
+    let wad = build_all(alloc, &maps)?;
+    let mut text = String::new(alloc);
+    for name in &level_names(alloc, &wad)? {
+        write!(text, "{:?}", name.bytes)?;
     }
+    Ok(text)
 }
 
 #[test]
 fn lists_levels(rt: HostRuntime) -> Result<(), Fail> {
-    let maps = drawn(rt.alloc(), &[ROOM, b"map E1M2", ROOM])?;
-    let wad = build_all(rt.alloc(), &maps)?;
-    let names = level_names(rt.alloc(), &wad)?;
-    let wanted = [
-        Name8 {
-            bytes: *b"MAP01\0\0\0",
-        },
-        Name8 {
-            bytes: *b"E1M2\0\0\0\0",
-        },
-    ];
-    assert_eq!(rt; names.as_slice(), wanted.as_slice());
-    for &(bytes, refused) in LISTED {
-        same(
-            &rt,
-            &(bytes, listed(rt.alloc(), bytes)),
-            &(bytes, (0, refused)),
-        );
-    }
-    Ok(())
+    let row = "ROOM;map E1M2;ROOM|[77, 65, 80, 48, 49, 0, 0, 0][69, 49, 77, 50, 0, 0, 0, 0]";
+    expect_rows(rt.alloc(), row, listed)
+}
+
+// How many levels the bytes have, or why listing them is refused.
+fn counted(alloc: Global, bytes: &str) -> Result<String, Fail> {
+    let wad = bytes_of(alloc, bytes)?;
+    let count = level_names(alloc, &wad).map(|names| names.len());
+    said(alloc, &count)
+}
+
+#[test]
+fn lists_no_levels(rt: HostRuntime) -> Result<(), Fail> {
+    let rows =
+        "'PWAD 0 0 12 0|Ok(0)\n'IWAD 1 0 12 0|Err(DirectoryOutside)\n'PWAD 0 0 12 '\0|Err(NotAWad)";
+    expect_rows(rt.alloc(), rows, counted)
 }

@@ -4,8 +4,9 @@ ghost use Rattle.std.specs.Prelude.{◌≡◌, ◌<◌, length, All};
 ghost use Rattle.tree_pieces.specs.Edges.{edges_of};
 ghost use Rattle.tree_pieces.specs.Pieces.{IsPiece};
 
-use crate::drawing::{L, SECTOR, SIDE, SLIVER, drawn};
+use crate::drawing::drawn;
 use crate::expect::{holds, same};
+use crate::rows::{expect_rows, said};
 use crate::tangle::{Sequence, draw_tangle};
 use map_tables::Map;
 use std::alloc::Global;
@@ -111,38 +112,42 @@ fn walked(map: &Map, pieces: &[Piece], used: &[bool]) -> Option<Choice>
     best
 }
 
-// Two lines on one straight line that run in opposite directions. Each has the other on its left.
-#[rattlefmt::skip]
-const AGAINST: [&[u8]; 8] = [
-    b"vertex 0 0", b"vertex 64 0", b"vertex 128 0", b"vertex 192 0", SECTOR, SIDE,
-    b"line 0 1 1 0 0 0 -", b"line 3 2 1 0 0 0 -",
-];
-
-// Lines; which of their map's lines are used; and the choice as `at`, `splits`, `right` and `left`. In the L the third
-// and the fourth line both cost nine: eight for a split, and one. In the sliver no line has anything on its left.
-#[rattlefmt::skip]
-const CHOICES: &[(&[&[u8]], &[bool], Option<[u32; 4]>)] = &[
-    (&L, &[false, false, false, false, false, false], Some([2, 1, 4, 3])),
-    (&L, &[false, false, true, false, false, false], Some([3, 1, 4, 3])),
-    (&L, &[false, false, true, true, false, false], None),
-    (&AGAINST, &[false, false], Some([0, 0, 1, 1])),
-    (&AGAINST, &[true, false], Some([1, 0, 1, 1])),
-    (&SLIVER, &[false, false], None),
-];
+// Which of a map's lines are used, a digit for each, and the lines that draw it; and the choice as `at`, `splits`,
+// `right` and `left`. In the L the third and the fourth line both cost nine: eight for a split, and one. In the sliver
+// no line has anything on its left.
+const CHOICES: &str = "000000 L|Some([2, 1, 4, 3])\n\
+    001000 L|Some([3, 1, 4, 3])\n\
+    001100 L|None\n\
+    00 AGAINST|Some([0, 0, 1, 1])\n\
+    10 AGAINST|Some([1, 0, 1, 1])\n\
+    00 SLIVER|None";
 
 fn numbers(choice: Option<Choice>) -> Option<[u32; 4]> {
     let choice = choice?;
     Some([choice.at, choice.splits, choice.right, choice.left])
 }
 
+// Which of the lines are used.
+fn used_in(alloc: Global, digits: &str) -> Result<Vec<bool>, Fail> {
+    let mut used = Vec::new(alloc);
+    for digit in digits.chars() {
+        used.push(digit == '1')?;
+    }
+    Ok(used)
+}
+
+// The choice of a row.
+fn choice_of(rt: &impl Abort, alloc: Global, row: &str) -> Result<String, Fail> {
+    let (digits, lines) = row.split_once(' ').unwrap_or((row, ""));
+    let maps = drawn(alloc, lines)?;
+    let used = used_in(alloc, digits)?;
+    let choice = chosen(rt, alloc, maps.current(), &used)?;
+    said(alloc, &numbers(choice))
+}
+
 #[test]
 fn takes_the_first_of_the_cheapest(rt: HostRuntime) -> Result<(), Fail> {
-    for &(lines, used, want) in CHOICES {
-        let maps = drawn(rt.alloc(), lines)?;
-        let choice = chosen(&rt, rt.alloc(), maps.current(), used)?;
-        same(&rt, &(used, numbers(choice)), &(used, want));
-    }
-    Ok(())
+    expect_rows(rt.alloc(), CHOICES, |alloc, row| choice_of(&rt, alloc, row))
 }
 
 // How many of a map's pieces separate the others.
@@ -159,7 +164,7 @@ fn separating(alloc: Global, map: &Map) -> Result<u32, Fail> {
 
 #[test]
 fn a_sliver_separates_nothing(rt: HostRuntime) -> Result<(), Fail> {
-    let maps = drawn(rt.alloc(), &SLIVER)?;
+    let maps = drawn(rt.alloc(), "SLIVER")?;
     let count = separating(rt.alloc(), maps.current())?;
     assert_eq!(rt; count, 0);
     Ok(())

@@ -4,8 +4,9 @@ ghost use Rattle.std.specs.Prelude.{◌<◌, length, All};
 ghost use Rattle.tree_pieces.specs.Pieces.{IsPiece};
 ghost use Rattle.tree_pieces.specs.Edges.{edges_of};
 
-use crate::drawing::{CUT, L, SECTOR, SLIVER, drawn};
-use crate::expect::{holds, same};
+use crate::drawing::drawn;
+use crate::expect::same;
+use crate::rows::{expect_rows, number, said};
 use lump_records::{Bounds, Vertex};
 use map_tables::Map;
 use std::alloc::Global;
@@ -17,12 +18,10 @@ use tree_pieces::{
 };
 
 // Vectors and their angles. Those of the longest diagonals are exact; close to an axis the last bit decides.
-#[rattlefmt::skip]
-const ANGLES: &[([i16; 2], u16)] = &[
-    ([1, 0], 0), ([1, 1], 8192), ([0, 1], 16384), ([128, 64], 4836), ([-1, 0], 32768), ([0, -1], 49152),
-    ([32767, 32767], 8192), ([-32767, 32767], 24576), ([-32767, -32767], 40960), ([32767, -32767], 57344),
-    ([32767, 1], 0), ([32767, -1], 65535),
-];
+const ANGLES: &str =
+    "1 0|Some(0)\n1 1|Some(8192)\n0 1|Some(16384)\n128 64|Some(4836)\n-1 0|Some(32768)\n\
+    0 -1|Some(49152)\n32767 32767|Some(8192)\n-32767 32767|Some(24576)\n-32767 -32767|Some(40960)\n\
+    32767 -32767|Some(57344)\n32767 1|Some(0)\n32767 -1|Some(65535)";
 
 // The angle of a vector; `None` for the zero vector, and if a component is -32,768.
 fn angle(x: i16, y: i16) -> Option<u16> {
@@ -35,11 +34,17 @@ fn angle(x: i16, y: i16) -> Option<u16> {
     Some(angle16(i32::from(x), i32::from(y)))
 }
 
+// The same of a row.
+fn angle_told(alloc: Global, row: &str) -> Result<String, Fail> {
+    let (x, y) = row.split_once(' ').unwrap_or((row, ""));
+    let x = x.parse::<i16>().unwrap_or(0);
+    let y = y.parse::<i16>().unwrap_or(0);
+    said(alloc, &angle(x, y))
+}
+
 #[test]
-fn angles(rt: HostRuntime) {
-    for &([x, y], want) in ANGLES {
-        same(&rt, &(x, y, angle(x, y)), &(x, y, Some(want)));
-    }
+fn angles(rt: HostRuntime) -> Result<(), Fail> {
+    expect_rows(rt.alloc(), ANGLES, angle_told)
 }
 
 const ORIGIN: Vertex = Vertex { x: 0, y: 0 };
@@ -76,39 +81,20 @@ fn offsets(rt: HostRuntime) {
 // A piece's line and side; and where it begins and ends on its line, as two fractions: n and d, n and d.
 type Fields = (u16, Facing, [i32; 4]);
 
-// Lines; which piece of their map's sides is cut, and by which; how it lies; and its parts on the right and on the
-// left.
-type Row = (
-    &'static [&'static [u8]],
-    [usize; 2],
-    Place,
-    [Option<Fields>; 2],
-);
-
-// Three lines between four places on one straight line. Their direction decides.
-#[rattlefmt::skip]
-const COLLINEAR: [&[u8]; 9] = [
-    b"vertex 0 0", b"vertex 64 0", b"vertex 128 0", b"vertex 192 0", SECTOR, b"side 0 0 - - - 0",
-    b"line 0 1 4 0 0 0 0", b"line 2 3 1 0 0 0 -", b"line 3 1 1 0 0 0 -",
-];
-
-#[rattlefmt::skip]
-const CUTS: &[Row] = &[
-    (&CUT, [0, 2], Place::Across,
-        [Some((0, Facing::Along, [0, 1, 20, 50])), Some((0, Facing::Along, [20, 50, 1, 1]))]),
-    (&CUT, [1, 2], Place::Across,
-        [Some((0, Facing::Against, [0, 1, 20, 50])), Some((0, Facing::Against, [20, 50, 1, 1]))]),
-    (&SLIVER, [0, 1], Place::Across, [Some((0, Facing::Along, [3, 100, 1, 1])), None]),
-    (&L, [5, 2], Place::Across,
-        [Some((5, Facing::Along, [16384, 32768, 1, 1])), Some((5, Facing::Along, [0, 1, 16384, 32768]))]),
-    (&COLLINEAR, [0, 0], Place::Right, [Some((0, Facing::Along, [0, 1, 1, 1])), None]),
-    (&COLLINEAR, [1, 0], Place::Left, [None, Some((0, Facing::Against, [0, 1, 1, 1]))]),
-    (&COLLINEAR, [2, 0], Place::Right, [Some((1, Facing::Along, [0, 1, 1, 1])), None]),
-    (&COLLINEAR, [3, 0], Place::Left, [None, Some((2, Facing::Along, [0, 1, 1, 1]))]),
-    (&COLLINEAR, [0, 1], Place::Left, [None, Some((0, Facing::Along, [0, 1, 1, 1]))]),
-    (&COLLINEAR, [3, 1], Place::Right, [Some((2, Facing::Along, [0, 1, 1, 1])), None]),
-    (&COLLINEAR, [2, 3], Place::Left, [None, Some((1, Facing::Along, [0, 1, 1, 1]))]),
-];
+// Which piece of a map's sides is cut, and by which, and the lines that draw the map; how the piece lies; and its parts
+// on the right and on the left. Of the collinear lines the direction decides.
+const CUTS: &str =
+    "0 2 CUT|(Across, [Some((0, Along, [0, 1, 20, 50])), Some((0, Along, [20, 50, 1, 1]))])\n\
+    1 2 CUT|(Across, [Some((0, Against, [0, 1, 20, 50])), Some((0, Against, [20, 50, 1, 1]))])\n\
+    0 1 SLIVER|(Across, [Some((0, Along, [3, 100, 1, 1])), None])\n\
+    5 2 L|(Across, [Some((5, Along, [16384, 32768, 1, 1])), Some((5, Along, [0, 1, 16384, 32768]))])\n\
+    0 0 COLLINEAR|(Right, [Some((0, Along, [0, 1, 1, 1])), None])\n\
+    1 0 COLLINEAR|(Left, [None, Some((0, Against, [0, 1, 1, 1]))])\n\
+    2 0 COLLINEAR|(Right, [Some((1, Along, [0, 1, 1, 1])), None])\n\
+    3 0 COLLINEAR|(Left, [None, Some((2, Along, [0, 1, 1, 1]))])\n\
+    0 1 COLLINEAR|(Left, [None, Some((0, Along, [0, 1, 1, 1]))])\n\
+    3 1 COLLINEAR|(Right, [Some((2, Along, [0, 1, 1, 1])), None])\n\
+    2 3 COLLINEAR|(Left, [None, Some((1, Along, [0, 1, 1, 1]))])";
 
 fn fields(piece: Option<Piece>) -> Option<Fields> {
     let piece = piece?;
@@ -131,38 +117,33 @@ fn parts(map: &Map, pieces: &[Piece], at: usize, by: usize) -> (Place, Parts)
 }
 
 // How the piece `at` of a map lies to the piece `by`, and its parts.
-fn cut(
-    rt: &impl Abort,
-    alloc: Global,
-    map: &Map,
-    [at, by]: [usize; 2],
-) -> Result<(Place, [Option<Fields>; 2]), Fail> {
+fn cut(alloc: Global, map: &Map, at: usize, by: usize) -> Result<String, Fail> {
     let pieces = pieces_of(alloc, map)?;
-    holds(rt, at < pieces.len());
-    holds(rt, by < pieces.len());
-    let (place, parts) = parts(map, &pieces, at, by);
-    Ok((place, [fields(parts.right), fields(parts.left)]))
+    if at < pieces.len() && by < pieces.len() {
+        let (place, parts) = parts(map, &pieces, at, by);
+        return said(alloc, &(place, [fields(parts.right), fields(parts.left)]));
+    }
+    Err(Fail::from("no such piece"))
+}
+
+// The same of a row.
+fn cut_told(alloc: Global, row: &str) -> Result<String, Fail> {
+    let mut lines = row;
+    let at = number(&mut lines) as usize;
+    let by = number(&mut lines) as usize;
+    let maps = drawn(alloc, lines)?;
+    cut(alloc, maps.current(), at, by)
 }
 
 #[test]
 fn pieces_are_cut(rt: HostRuntime) -> Result<(), Fail> {
-    for &(lines, pair, place, want) in CUTS {
-        let maps = drawn(rt.alloc(), lines)?;
-        let found = cut(&rt, rt.alloc(), maps.current(), pair)?;
-        same(&rt, &(pair, found), &(pair, (place, want)));
-    }
-    Ok(())
+    expect_rows(rt.alloc(), CUTS, cut_told)
 }
 
 // The box of each piece of the L: one step larger on each side than the box of its ends.
-const L_BOXES: [[i16; 4]; 6] = [
-    [257, -1, -1, 1],
-    [257, 255, -1, 129],
-    [257, 127, 127, 129],
-    [129, 127, 127, 257],
-    [129, -1, 255, 257],
-    [1, -1, -1, 257],
-];
+const L_BOXES: &str =
+    "L|[[257, -1, -1, 1], [257, 255, -1, 129], [257, 127, 127, 129], [129, 127, 127, 257], \
+    [129, -1, 255, 257], [1, -1, -1, 257]]";
 
 // The boxes of a map's pieces, each as top, bottom, left and right.
 fn boxes_of(alloc: Global, map: &Map) -> Result<Vec<[i16; 4]>, Fail> {
@@ -183,10 +164,9 @@ fn boxes_of(alloc: Global, map: &Map) -> Result<Vec<[i16; 4]>, Fail> {
 
 #[test]
 fn boxes_are_one_step_wider(rt: HostRuntime) -> Result<(), Fail> {
-    let maps = drawn(rt.alloc(), &L)?;
-    let boxes = boxes_of(rt.alloc(), maps.current())?;
-    assert_eq!(rt; boxes.as_slice(), L_BOXES.as_slice());
-    Ok(())
+    expect_rows(rt.alloc(), L_BOXES, |alloc, lines| {
+        said(alloc, &boxes_of(alloc, drawn(alloc, lines)?.current())?)
+    })
 }
 
 // The n-th of 32,768 different places.
@@ -233,7 +213,7 @@ fn expect_numbers(rt: &impl Abort, points: &mut Points) {
 
 #[test]
 fn numbers_each_place_once(rt: HostRuntime) -> Result<(), Fail> {
-    let maps = drawn(rt.alloc(), &[b"vertex 0 0", b"vertex 1 0"])?;
+    let maps = drawn(rt.alloc(), "vertex 0 0;vertex 1 0")?;
     let mut points = Points::new(rt.alloc(), maps.current())?;
     expect_numbers(&rt, &mut points);
     assert_eq!(rt; SegsError::TooManyVertices.code(), 61);

@@ -1,7 +1,7 @@
 //! Maps of many lines that cross one another, drawn by a fixed sequence of pseudorandom numbers.
 ghost use Rattle.std.specs.Prelude.{◌<◌};
 
-use crate::drawing::{SECTOR, SIDE, draw, drawn};
+use crate::drawing::{draw_lines as draw, drawn};
 use map_tables::Maps;
 use std::alloc::Global;
 use std::test::Fail;
@@ -30,7 +30,7 @@ fn draw_row(alloc: Global, maps: &mut Maps, y: u32, apart: u32) -> Result<(), Fa
     for x in 0..7u32 {
         let x = x * apart;
         let line = format!(in alloc; "vertex {x} {y}")?;
-        draw(maps, &[line.as_bytes()])?;
+        draw(maps, line.as_str())?;
     }
     Ok(())
 }
@@ -55,7 +55,7 @@ pub fn draw_tangle(
 ) -> Result<Maps, Fail>
     requires { apart < 100 }
 {
-    let mut maps = drawn(alloc, &[SECTOR, SIDE])?;
+    let mut maps = drawn(alloc, "SECTOR;SIDE")?;
     draw_grid(alloc, &mut maps, apart)?;
     draw_lines(alloc, &mut maps, numbers, lines)?;
     Ok(maps)
@@ -77,7 +77,7 @@ fn draw_lines(
             "1 0 0 0 -"
         };
         let line = format!(in alloc; "line {from} {to} {left}")?;
-        draw(maps, &[line.as_bytes()])?;
+        draw(maps, line.as_str())?;
     }
     Ok(())
 }
