@@ -1,32 +1,31 @@
 //! What `picture` draws for the maps of a project.
 
-use crate::expect::same;
-use crate::inspection::performed;
+use crate::calls::{called, performed};
 use cli_words::{Request, RequestError, request};
-use lump_records::Bounds;
 use map_picture::STYLE;
 use std::alloc::Global;
 use std::fs;
 use std::test::Fail;
+use tests_runs::rows::{expect_rows, expect_text, part, said};
 
 // A map with one vertex, and an empty one, which is current.
 const LINES: &[u8] = b"vertex 0 0\nmap E1M1\n";
 
 // The part of the vertex's picture before the style, and the part after it, worked by hand: the vertex and 64 units on
 // each side.
-const FRONT: &[u8] =
-    br#"<svg class="leveled" xmlns="http://www.w3.org/2000/svg" version="1.1" width="100%"
+const FRONT: &str =
+    r#"<svg class="leveled" xmlns="http://www.w3.org/2000/svg" version="1.1" width="100%"
 viewBox="-64 -64 128 128" font-size="8">
 <title>MAP01</title>
 "#;
 
-const BACK: &[u8] = br#"<rect class="page" x="-64" y="-64" width="128" height="128"/>
+const BACK: &str = r#"<rect class="page" x="-64" y="-64" width="128" height="128"/>
 <path id="vertex0" class="vertex" d="M0 0h0"><title>vertex 0: 0 0</title></path>
 </svg>
 "#;
 
 // The part after the style with the vertex's number.
-const NUMBERED: &[u8] = br#"<rect class="page" x="-64" y="-64" width="128" height="128"/>
+const NUMBERED: &str = r#"<rect class="page" x="-64" y="-64" width="128" height="128"/>
 <path id="vertex0" class="vertex" d="M0 0h0"><title>vertex 0: 0 0</title></path>
 <g id="numbers" font-size="11">
 <text class="of-vertex" x="0" y="0" dx="8" dy="-8">0</text>
@@ -36,7 +35,7 @@ const NUMBERED: &[u8] = br#"<rect class="page" x="-64" y="-64" width="128" heigh
 
 // The part after the style with marks for what `lint` prints: at the vertex, that no line uses it; and in the corner,
 // that there is no start, as a finding and as a warning, and no exit.
-const LINTED: &[u8] = br#"<rect class="page" x="-64" y="-64" width="128" height="128"/>
+const LINTED: &str = r#"<rect class="page" x="-64" y="-64" width="128" height="128"/>
 <path id="vertex0" class="vertex" d="M0 0h0"><title>vertex 0: 0 0</title></path>
 <g id="lint0" class="lint">
 <title>vertex 0 unused</title>
@@ -54,118 +53,102 @@ const LINTED: &[u8] = br#"<rect class="page" x="-64" y="-64" width="128" height=
 "#;
 
 // The picture of the empty map shows the surroundings of (0,0).
-const EMPTY_FRONT: &[u8] =
-    br#"<svg class="leveled" xmlns="http://www.w3.org/2000/svg" version="1.1" width="100%"
+const EMPTY_FRONT: &str =
+    r#"<svg class="leveled" xmlns="http://www.w3.org/2000/svg" version="1.1" width="100%"
 viewBox="-64 -64 128 128" font-size="8">
 <title>E1M1</title>
 "#;
 
-const EMPTY_BACK: &[u8] = br#"<rect class="page" x="-64" y="-64" width="128" height="128"/>
+const EMPTY_BACK: &str = r#"<rect class="page" x="-64" y="-64" width="128" height="128"/>
 </svg>
 "#;
 
-// Arguments after `leveled picture`, the status, the two parts of the picture that is printed, if one is, and standard
-// error.
-const ROWS: &[(&[&str], u8, &[u8], &[u8], &[u8])] = &[
-    (&["pictures.lv"], 0, EMPTY_FRONT, EMPTY_BACK, b""),
-    (&["pictures.lv", "MAP01"], 0, FRONT, BACK, b""),
-    (
-        &["pictures.lv", "MAP01", "--numbers"],
-        0,
-        FRONT,
-        NUMBERED,
-        b"",
-    ),
-    (&["pictures.lv", "MAP01", "--lint"], 0, FRONT, LINTED, b""),
-    (
-        &["pictures.lv", "MAP01", "--nodes"],
-        1,
-        b"",
-        b"",
-        b"leveled: 60 NothingToBuild\n",
-    ),
-    (
-        &["pictures.lv", "MAP02"],
-        1,
-        b"",
-        b"",
-        b"leveled: 18 NoSuchMap\n  there is MAP01 E1M1\n",
-    ),
-    (&["pictures.lv", "--out", "pictures.svg"], 0, b"", b"", b""),
-    (
-        &["pictures.lv", "MAP01", "--out", "pictures.svg"],
-        0,
-        b"",
-        b"",
-        b"",
-    ),
-    (
-        &["pictures.lv", "--out", "./pictures.lv"],
-        1,
-        b"",
-        b"",
-        b"leveled: 38 WriterFailed\n  ./pictures.lv: is no picture of a map; it is left alone\n",
-    ),
-];
-
-// The picture of these two parts with the style between them; or the second part alone, if the first is empty.
-fn picture(alloc: Global, front: &[u8], back: &[u8]) -> Result<Vec<u8>, Fail> {
-    let mut text = front.to_vec(alloc)?;
-    if !front.is_empty() {
-        text.extend_from_slice(STYLE.as_bytes())?;
+// The part of a picture that has this name in a row.
+fn named(name: &str) -> &str {
+    match name {
+        "FRONT" => FRONT,
+        "BACK" => BACK,
+        "NUMBERED" => NUMBERED,
+        "LINTED" => LINTED,
+        "EMPTY_FRONT" => EMPTY_FRONT,
+        "EMPTY_BACK" => EMPTY_BACK,
+        _ => name,
     }
-    text.extend_from_slice(back)?;
-    Ok(text)
 }
 
-// Calls `picture` with these arguments: its status, its output, and its standard error.
-fn pictured(rt: &HostRuntime, words: &[&str]) -> Result<(u8, Vec<u8>, Vec<u8>), Fail> {
-    let mut all = Vec::new(rt.alloc());
-    all.push("leveled")?;
-    all.push("picture")?;
-    all.extend_from_slice(words)?;
-    performed(rt, &all, b"")
+// Arguments after `leveled picture`, the status, the two parts of the picture that is printed, if one is, and standard
+// error.
+const ROWS: &str = "\
+    pictures.lv~0~EMPTY_FRONT~EMPTY_BACK~^\
+    pictures.lv MAP01~0~FRONT~BACK~^\
+    pictures.lv MAP01 --numbers~0~FRONT~NUMBERED~^\
+    pictures.lv MAP01 --lint~0~FRONT~LINTED~^\
+    pictures.lv MAP01 --nodes~1~~~leveled: 60 NothingToBuild\n^\
+    pictures.lv MAP02~1~~~leveled: 18 NoSuchMap\n  there is MAP01 E1M1\n^\
+    pictures.lv --out pictures.svg~0~~~^\
+    pictures.lv MAP01 --out pictures.svg~0~~~^\
+    pictures.lv --out ./pictures.lv~1~~~leveled: 38 WriterFailed\n\
+    \x20 ./pictures.lv: is no picture of a map; it is left alone\n";
+
+// The picture of these two parts with the style between them; nothing, if the first is empty.
+fn picture(alloc: Global, front: &str, back: &str) -> Result<String, Fail> {
+    if front.is_empty() {
+        return Ok(String::new(alloc));
+    }
+    let (front, back) = (named(front), named(back));
+    Ok(format!(in alloc; "{front}{STYLE}{back}")?)
+}
+
+// Calls `picture` as a row says.
+fn expect_picture(rt: &HostRuntime, row: &str) -> Result<(), Fail> {
+    let mut faults = row;
+    let words = format!(in rt.alloc(); "picture {}", part(&mut faults, '~'))?;
+    let status = part(&mut faults, '~');
+    let front = part(&mut faults, '~');
+    let drawn = picture(rt.alloc(), front, part(&mut faults, '~'))?;
+    let wanted = format!(in rt.alloc(); "{status}~{drawn}~{faults}")?;
+    let found = called(rt, words.as_str(), b"")?;
+    expect_text(row, found.as_str(), wanted.as_str())
+}
+
+// The file has the picture of the map with one vertex.
+fn expect_file(rt: &HostRuntime, path: &str) -> Result<(), Fail> {
+    let drawn = String::from_utf8(fs::read(rt, path)?)?;
+    let wanted = picture(rt.alloc(), "FRONT", "BACK")?;
+    expect_text(path, drawn.as_str(), wanted.as_str())
 }
 
 #[test]
 fn draws_maps_of_a_file(rt: HostRuntime) -> Result<(), Fail> {
     let _ = fs::remove_file(&rt, "pictures.lv");
     let _ = fs::remove_file(&rt, "pictures.svg");
-    let _ = performed(&rt, &["leveled", "create", "pictures.lv"], b"")?;
-    let _ = performed(&rt, &["leveled", "edit", "pictures.lv"], LINES)?;
-    for &(words, status, front, back, faults) in ROWS {
-        let wanted = picture(rt.alloc(), front, back)?;
-        let (ended, out, said) = pictured(&rt, words)?;
-        let told = (words, ended, out.as_slice(), said.as_slice());
-        same(&rt, &told, &(words, status, wanted.as_slice(), faults));
+    let _ = performed(&rt, "create pictures.lv", b"")?;
+    let _ = performed(&rt, "edit pictures.lv", LINES)?;
+    for row in ROWS.split('^') {
+        expect_picture(&rt, row)?;
     }
-    let drawn = fs::read(&rt, "pictures.svg")?;
-    same(&rt, &drawn, &picture(rt.alloc(), FRONT, BACK)?);
-    Ok(())
+    expect_file(&rt, "pictures.svg")
 }
 
 // Texts of `--crop`, and the upper, lower, left and right edge of the box that each writes.
-const BOXES: &[(&str, [i16; 4])] = &[
-    ("--crop=0,0,128,64", [64, 0, 0, 128]),
-    ("--crop=128,64,0,0", [64, 0, 0, 128]),
-    ("--crop=-64,+64,0,-64", [64, -64, -64, 0]),
-    (
-        "--crop=-32768,-32768,32767,32767",
-        [32767, -32768, -32768, 32767],
-    ),
-];
+const BOXES: &str = "\
+    --crop=0,0,128,64~Some([64, 0, 0, 128])^\
+    --crop=128,64,0,0~Some([64, 0, 0, 128])^\
+    --crop=-64,+64,0,-64~Some([64, -64, -64, 0])^\
+    --crop=-32768,-32768,32767,32767~Some([32767, -32768, -32768, 32767])";
 
 // Texts that write none: too few or too many numbers, no number, one past 16 bits, and boxes without area.
-#[rattlefmt::skip]
-const NO_BOXES: &[&str] = &[
-    "0", "0,0,64", "0,0,64,64,", "0,0,64,64,64", "0,0,64,", "0,,64,64", "0, 0,64,64", "0 0 64 64", "0,0,x,64",
-    "0,0,64,32768", "0,-32769,64,64", "0,0,0,64", "0,64,64,64", "0,0,0,0",
-];
+const NO_BOXES: &str = "\
+    0;0,0,64;0,0,64,64,;0,0,64,64,64;0,0,64,;0,,64,64;0, 0,64,64;0 0 64 64;0,0,x,64;0,0,64,32768;\
+    0,-32769,64,64;0,0,0,64;0,64,64,64;0,0,0,0";
 
 // The edges of the box that the words ask for.
-fn asked_box(alloc: Global, words: &[&str]) -> Result<Option<Bounds>, Fail> {
+fn asked_box(alloc: Global, words: &[&str]) -> Result<String, Fail> {
     match request(alloc, words) {
-        Ok(Request::Picture { crop, .. }) => Ok(crop),
+        Ok(Request::Picture { crop, .. }) => {
+            let edges = crop.map(|found| [found.top, found.bottom, found.left, found.right]);
+            said(alloc, &edges)
+        }
         _ => Err(Fail::from("no picture is asked for")),
     }
 }
@@ -180,24 +163,14 @@ fn refused_box(alloc: Global, text: &str) -> Result<String, Fail> {
 
 #[test]
 fn reads_boxes(rt: HostRuntime) -> Result<(), Fail> {
-    for &(word, [top, bottom, left, right]) in BOXES {
-        let found = asked_box(rt.alloc(), &["leveled", "picture", "f", word])?;
-        let wanted = Bounds {
-            top,
-            bottom,
-            left,
-            right,
-        };
-        same(&rt, &(word, found), &(word, Some(wanted)));
-    }
-    same(
-        &rt,
-        &asked_box(rt.alloc(), &["leveled", "picture", "f"])?,
-        &None,
-    );
-    for &text in NO_BOXES {
+    expect_rows(rt.alloc(), BOXES, |alloc, word| {
+        asked_box(alloc, &["leveled", "picture", "f", word])
+    })?;
+    let none = asked_box(rt.alloc(), &["leveled", "picture", "f"])?;
+    expect_text("no --crop", none.as_str(), "None")?;
+    for text in NO_BOXES.split(';') {
         let found = refused_box(rt.alloc(), text)?;
-        same(&rt, &found.as_str(), &text);
+        expect_text(text, found.as_str(), text)?;
     }
     Ok(())
 }

@@ -4,58 +4,29 @@ use cli_program::perform_typed;
 use cli_words::Request;
 use std::io::{Read, Write};
 use std::test::Fail;
+use tests_runs::rows::{expect_text, halves};
 use tests_runs::streams::{Drip, Held, Narrow};
 
 // What is typed, what standard output has then, and what standard error.
-const SESSIONS: &[(&[u8], &[u8], &[u8])] = &[
-    (b"", b"", b""),
-    (b"vertex 0 0\nvertex 64 0", b"ok 0\nok 1\n", b""),
-    (
-        b"vertex 0 0\nvertex 0 0\nvertex 64 0\n",
-        b"ok 0\nno 10\nok 1\n",
-        b"  vertex 0 stands at 0 0\n",
-    ),
-    (
-        b"splitt 0 1 1\n",
-        b"no 1\n",
-        b"  perhaps this is meant: split LINE X Y\n",
-    ),
-    (
-        b"vertex  0 0\n",
-        b"no 1\n",
-        b"  perhaps this is meant: vertex 0 0\n",
-    ),
-    (
-        b"vertex 0 0 # a corner\n",
-        b"no 1\n",
-        b"  perhaps this is meant: vertex 0 0\n",
-    ),
-    (
-        b"vertex $a.vertex 0\nlet a 1\narea 0 1\n",
-        b"no 1\nno 1\nno 1\n",
-        b"  names, shapes and blocks are for scripts, which draw takes\n\
-          \x20 names, shapes and blocks are for scripts, which draw takes\n\
-          \x20 names, shapes and blocks are for scripts, which draw takes\n",
-    ),
-    (
-        b"\n",
-        b"no 1\n",
-        b"  a line is a command or a query: help lists them\n",
-    ),
-    (b"quit\nvertex 0 0\n", b"", b""),
-    (b"vertex 0 0\nexit\nvertex 64 0\n", b"ok 0\n", b""),
-    (b"vertex 0 0\nquit", b"ok 0\n", b""),
-    (
-        b"help split\ncheck\n",
-        b"split LINE X Y\n  LINE 0 to 32766\n  X -16384 to 16383\n  Y -16384 to 16383\nno player start\nfindings 1\n",
-        b"",
-    ),
-    (
-        b"help delete\nhelp castle\n",
-        b"no such line; perhaps this is meant: drop KIND NUMBER\nno such line; help lists them\n",
-        b"",
-    ),
-];
+const SESSIONS: &str = "\
+    ~~^\
+    vertex 0 0\nvertex 64 0~ok 0\nok 1\n~^\
+    vertex 0 0\nvertex 0 0\nvertex 64 0\n~ok 0\nno 10\nok 1\n~  vertex 0 stands at 0 0\n^\
+    splitt 0 1 1\n~no 1\n~  perhaps this is meant: split LINE X Y\n^\
+    vertex  0 0\n~no 1\n~  perhaps this is meant: vertex 0 0\n^\
+    vertex 0 0 # a corner\n~no 1\n~  perhaps this is meant: vertex 0 0\n^\
+    vertex $a.vertex 0\nlet a 1\narea 0 1\n~no 1\nno 1\nno 1\n\
+    ~  names, shapes and blocks are for scripts, which draw takes\n\
+    \x20 names, shapes and blocks are for scripts, which draw takes\n\
+    \x20 names, shapes and blocks are for scripts, which draw takes\n^\
+    \n~no 1\n~  a line is a command or a query: help lists them\n^\
+    quit\nvertex 0 0\n~~^\
+    vertex 0 0\nexit\nvertex 64 0\n~ok 0\n~^\
+    vertex 0 0\nquit~ok 0\n~^\
+    help split\ncheck\n~split LINE X Y\n  LINE 0 to 32766\n  X -16384 to 16383\n  Y -16384 to 16383\n\
+    no player start\nfindings 1\n~^\
+    help delete\nhelp castle\n~no such line; perhaps this is meant: drop KIND NUMBER\n\
+    no such line; help lists them\n~";
 
 // The status of a session over this reader; it must print this on standard error.
 fn typed<R: Read, W: Write>(
@@ -80,21 +51,33 @@ fn written<R: Read>(rt: &HostRuntime, reader: &mut R, said: &[u8]) -> Result<(u8
     Ok((status, out))
 }
 
-#[test]
-fn answers_what_is_pasted(rt: HostRuntime) -> Result<(), Fail> {
-    for &(lines, answers, said) in SESSIONS {
-        let mut reader = lines;
-        let (status, out) = written(&rt, &mut reader, said)?;
-        assert_eq!(rt; (status, out.as_slice()), (0, answers));
+// A session over this reader has the output and the standard error that are wanted.
+fn expect_session<R: Read>(
+    rt: &HostRuntime,
+    row: &str,
+    reader: &mut R,
+    wanted: &str,
+) -> Result<(), Fail> {
+    let (answers, said) = halves(wanted);
+    let (status, out) = written(rt, reader, said.as_bytes())?;
+    if status == 0 && out.as_slice() == answers.as_bytes() {
+        return Ok(());
     }
-    Ok(())
+    expect_text(row, String::from_utf8(out)?.as_str(), answers)
+}
+
+// What is typed in a row is answered as it says, pasted and byte by byte.
+fn expect_typed(rt: &HostRuntime, row: &str) -> Result<(), Fail> {
+    let (lines, wanted) = halves(row);
+    let mut reader = lines.as_bytes();
+    expect_session(rt, row, &mut reader, wanted)?;
+    expect_session(rt, row, &mut Drip::of(lines.as_bytes(), false), wanted)
 }
 
 #[test]
-fn answers_what_comes_byte_by_byte(rt: HostRuntime) -> Result<(), Fail> {
-    for &(lines, answers, said) in SESSIONS {
-        let (status, out) = written(&rt, &mut Drip::of(lines, false), said)?;
-        assert_eq!(rt; (status, out.as_slice()), (0, answers));
+fn answers_what_is_pasted_and_what_comes_byte_by_byte(rt: HostRuntime) -> Result<(), Fail> {
+    for row in SESSIONS.split('^') {
+        expect_typed(&rt, row)?;
     }
     Ok(())
 }

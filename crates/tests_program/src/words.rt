@@ -1,9 +1,9 @@
 //! The program's arguments.
 
-use crate::expect::same;
 use cli_words::{Request, RequestError, Topic, request};
 use std::alloc::Global;
 use std::test::Fail;
+use tests_runs::rows::{expect_rows, expect_text, halves, said};
 
 #[test]
 fn reads_a_request(rt: HostRuntime) {
@@ -12,34 +12,51 @@ fn reads_a_request(rt: HostRuntime) {
 }
 
 // Arguments, the status with which clap answers them, and a part of its text.
-#[rattlefmt::skip]
-const WORDS: &[(&[&str], i32, &str)] = &[
-    (&["leveled"], 2, "requires a subcommand"),
-    (&["leveled", "help"], 0, "Usage: leveled <COMMAND>"),
-    (&["leveled", "help", "lint"], 0, "Usage: leveled lint [OPTIONS] <FILE>"),
-    (&["leveled", "help", "bogus"], 2, "unrecognized subcommand 'bogus'"),
-    (&["leveled", "scratch", "x"], 2, "unexpected argument 'x'"),
-    (&["leveled", "--slot"], 2, "unexpected argument '--slot'"),
-    (&["leveled", "--help"], 0, "Usage: leveled <COMMAND>"),
-    (&["leveled", "--version"], 0, "leveled 1.0.0"),
-];
+const WORDS: &str = "\
+    leveled~2 requires a subcommand^\
+    leveled help~0 Usage: leveled <COMMAND>^\
+    leveled help lint~0 Usage: leveled lint [OPTIONS] <FILE>^\
+    leveled help bogus~2 unrecognized subcommand 'bogus'^\
+    leveled scratch x~2 unexpected argument 'x'^\
+    leveled --slot~2 unexpected argument '--slot'^\
+    leveled --help~0 Usage: leveled <COMMAND>^\
+    leveled --version~0 leveled 1.0.0";
 
-// The status with which clap answers these arguments, and whether its text contains the part.
-fn answered_by_clap(alloc: Global, words: &[&str], part: &str) -> Result<(i32, bool), Fail> {
+// The words of a text.
+fn split<'a>(alloc: Global, text: &'a str) -> Result<Vec<&'a str>, Fail> {
+    let mut words = Vec::new(alloc);
+    for word in text.split(' ') {
+        words.push(word)?;
+    }
+    Ok(words)
+}
+
+// The status with which clap answers these arguments, and its text.
+fn answered_by_clap(alloc: Global, words: &[&str]) -> Result<(i32, String), Fail> {
     match request(alloc, words) {
         Err(RequestError::Words(error)) => {
             let text = error.to_string(alloc)?;
-            Ok((error.exit_code(), text.as_str().contains(part)))
+            Ok((error.exit_code(), text))
         }
         _ => Err(Fail::from("not refused by clap")),
     }
 }
 
+// Clap answers as a row says.
+fn expect_answer(alloc: Global, row: &str) -> Result<(), Fail> {
+    let (asked, wanted) = halves(row);
+    let (wanted_status, part) = wanted.split_once(' ').unwrap_or((wanted, ""));
+    let (status, text) = answered_by_clap(alloc, &split(alloc, asked)?)?;
+    if status == wanted_status.parse::<i32>()? && text.as_str().contains(part) {
+        return Ok(());
+    }
+    expect_text(row, text.as_str(), part)
+}
+
 #[test]
 fn reads_words(rt: HostRuntime) -> Result<(), Fail> {
-    for &(words, status, part) in WORDS {
-        let found = answered_by_clap(rt.alloc(), words, part)?;
-        same(&rt, &(words, found), &(words, (status, true)));
+    for row in WORDS.split('^') {
+        expect_answer(rt.alloc(), row)?;
     }
     Ok(())
 }
@@ -53,17 +70,16 @@ fn reads_a_wish_for_a_topic(rt: HostRuntime) {
 }
 
 // Options of `create`, and the status if clap refuses them.
-const LENGTHS: &[(&str, &str, Option<i32>)] = &[
-    ("--slot", "32", Some(2)),
-    ("--slot", "33", None),
-    ("--slot", "2007015", None),
-    ("--slot", "2007016", Some(2)),
-    ("--slot", "x", Some(2)),
-    ("--journal", "511", Some(2)),
-    ("--journal", "512", None),
-    ("--journal", "1048576", None),
-    ("--journal", "1048577", Some(2)),
-];
+const LENGTHS: &str = "\
+    --slot 32~Some(2)^\
+    --slot 33~None^\
+    --slot 2007015~None^\
+    --slot 2007016~Some(2)^\
+    --slot x~Some(2)^\
+    --journal 511~Some(2)^\
+    --journal 512~None^\
+    --journal 1048576~None^\
+    --journal 1048577~Some(2)";
 
 // The status of clap's refusal, or `None` if there is none.
 fn refused(alloc: Global, words: &[&str]) -> Option<i32> {
@@ -73,10 +89,14 @@ fn refused(alloc: Global, words: &[&str]) -> Option<i32> {
     }
 }
 
+// The same for the length that a row asks for.
+fn refused_length(alloc: Global, row: &str) -> Result<String, Fail> {
+    let (option, number) = row.split_once(' ').unwrap_or((row, ""));
+    let status = refused(alloc, &["leveled", "create", "f", option, number]);
+    said(alloc, &status)
+}
+
 #[test]
-fn reads_lengths_within_their_limits(rt: HostRuntime) {
-    for &(option, number, wanted) in LENGTHS {
-        let found = refused(rt.alloc(), &["leveled", "create", "f", option, number]);
-        same(&rt, &(option, number, found), &(option, number, wanted));
-    }
+fn reads_lengths_within_their_limits(rt: HostRuntime) -> Result<(), Fail> {
+    expect_rows(rt.alloc(), LENGTHS, refused_length)
 }

@@ -1,6 +1,7 @@
 //! Scripts drawn onto projects, whose commands are put together, over disks on which each call in turn fails.
 
 use crate::expect::same;
+use crate::rows::{expect_rows, meant, part};
 use crate::sweeping::{GEOMETRY, ROWS, Row, WITH_AN_AREA, Way, failing, input, sweep_all};
 use map_blocks::Stop;
 use map_script::{Names, script_lines};
@@ -78,7 +79,7 @@ impl Way for Scripted {
         &self,
         rt: &R,
         alloc: Global,
-        row: &Row,
+        row: &Row<'_>,
         fault: (u64, u32),
     ) -> Result<(u32, FaultDisk<MemoryDisk>), Fail> {
         let mut script = input(alloc, row.count.saturating_sub(self.added))?;
@@ -113,55 +114,46 @@ fn puts_all_of_a_shape_or_nothing(rt: HostRuntime) -> Result<(), Fail> {
 
 const AREA: &[u8] = b"area 0 128 FLOOR4_8 CEIL3_5 STARTAN3 160 64 64 64 128 128 128 128 64\n";
 
-// A script, whether answers are written, the call that fails, the stop, and what was written.
-type Stopped = (
-    &'static [u8],
-    bool,
-    u64,
-    Option<(usize, u16, usize)>,
-    &'static [u8],
-);
+// Scripts by their names. LONG is an area whose commands are longer than a journal.
+const NAMED: &str = "\
+    ASKING~let w 64\nvertex 0 $w\nvertex $w 0\nmaps\nroom 128 0 256 256 0 128 FLOOR4_8 CEIL3_5 STARTAN3 160\n\
+    vertex 7 7\nvertex 7 7\n^\
+    TOLD~vertex 0 0\nvertex 1 0\n^\
+    LOOPED~for i 0 2\nthing $i 0 0 1 7\nvertex 0 0\nend\n^\
+    LONG~area 0 128 FLOOR4_8 CEIL3_5 STARTAN3 160 0 0 0 64 8 128 32 160 64 192 128 192 160 160 192 128 192 64 160 32 \
+    128 0 64 -32\n";
 
-// The commands before a query are put before it is answered: four calls. Those of a shape are put with those of the
-// lines before it. Where the answers are written, each line is put before the next.
-#[rattlefmt::skip]
-const SCRIPTS: &[Stopped] = &[
-    (ASKING, false, 9, Some((1, 30, 0)), b""),
-    (ASKING, false, 12, Some((1, 30, 0)), b""),
-    (ASKING, false, 13, Some((4, 30, 0)), b"0 MAP01\ncurrent 0\n"),
-    (ASKING, false, 16, Some((4, 30, 0)), b"0 MAP01\ncurrent 0\n"),
-    (ASKING, false, 17, Some((6, 10, 0)), b"0 MAP01\ncurrent 0\n"),
-    (TOLD, true, 9, Some((0, 30, 0)), b""),
-    (TOLD, true, 12, Some((0, 30, 0)), b""),
-    (TOLD, true, 13, Some((1, 30, 0)), b"1: ok 0\n"),
-    (TOLD, true, 17, None, b"1: ok 0\n2: ok 1\n"),
-    (LOOPED, false, 9, Some((1, 30, 0)), b""),
-    (LOOPED, false, 99, Some((2, 10, 1)), b""),
-    (LOOPED, true, 13, Some((2, 30, 0)), b"2: ok 0\n"),
-    (LONG, false, 999, None, b""),
-];
+// A `+` if answers are written, else a `-`; the call that fails; a script; the stop, and what was written. The commands
+// before a query are put before it is answered: four calls. Those of a shape are put with those of the lines before it.
+// Where the answers are written, each line is put before the next.
+const SCRIPTS: &str = "\
+    -9 ASKING~Some((1, 30, 0)) ^\
+    -12 ASKING~Some((1, 30, 0)) ^\
+    -13 ASKING~Some((4, 30, 0)) 0 MAP01\ncurrent 0\n^\
+    -16 ASKING~Some((4, 30, 0)) 0 MAP01\ncurrent 0\n^\
+    -17 ASKING~Some((6, 10, 0)) 0 MAP01\ncurrent 0\n^\
+    +9 TOLD~Some((0, 30, 0)) ^\
+    +12 TOLD~Some((0, 30, 0)) ^\
+    +13 TOLD~Some((1, 30, 0)) 1: ok 0\n^\
+    +17 TOLD~None 1: ok 0\n2: ok 1\n^\
+    -9 LOOPED~Some((1, 30, 0)) ^\
+    -99 LOOPED~Some((2, 10, 1)) ^\
+    +13 LOOPED~Some((2, 30, 0)) 2: ok 0\n^\
+    -999 LONG~None ";
 
-const ASKING: &[u8] = b"let w 64\nvertex 0 $w\nvertex $w 0\nmaps\n\
-    room 128 0 256 256 0 128 FLOOR4_8 CEIL3_5 STARTAN3 160\nvertex 7 7\nvertex 7 7\n";
-
-const TOLD: &[u8] = b"vertex 0 0\nvertex 1 0\n";
-
-// An area whose commands are longer than a journal.
-const LONG: &[u8] =
-    b"area 0 128 FLOOR4_8 CEIL3_5 STARTAN3 160 0 0 0 64 8 128 32 160 64 192 128 192 \
-    160 160 192 128 192 64 160 32 128 0 64 -32\n";
-
-const LOOPED: &[u8] = b"for i 0 2\nthing $i 0 0 1 7\nvertex 0 0\nend\n";
+// The stop of a drawing, and what it wrote.
+fn stopped(alloc: Global, row: &str) -> Result<String, Fail> {
+    let mut script = row;
+    let how = part(&mut script, ' ');
+    let call = how.parse::<i32>()?;
+    let script = meant(NAMED, script).as_bytes();
+    let fault = (u64::from(call.unsigned_abs()), 0);
+    let ended = fail_within(alloc, GEOMETRY, script, how.starts_with('+'), fault)?;
+    let out = String::from_utf8(ended.out)?;
+    Ok(format!(in alloc; "{:?} {out}", ended.stop)?)
+}
 
 #[test]
 fn stops_at_the_first_line_that_is_lost(rt: HostRuntime) -> Result<(), Fail> {
-    for &(script, is_verbose, call, stop, out) in SCRIPTS {
-        let ended = fail_within(rt.alloc(), GEOMETRY, script, is_verbose, (call, 0))?;
-        same(
-            &rt,
-            &(call, ended.stop, ended.out.as_slice()),
-            &(call, stop, out),
-        );
-    }
-    Ok(())
+    expect_rows(rt.alloc(), SCRIPTS, stopped)
 }

@@ -1,6 +1,7 @@
 //! Lines and their answers in memory.
 
 use crate::expect::same;
+use crate::rows::expect_rows;
 use crate::streams::{Drip, Endless, Held, Narrow};
 use map_tables::Map;
 use run_edit::{EditorError, run_in_memory, write_findings};
@@ -13,79 +14,89 @@ const ROW: &[u8] = b"vertex 0 0\nvertex 128 0\nhex VERTEXES\n";
 
 const ROW_ANSWERS: &[u8] = b"ok 0\nok 1\n00 00 00 00 80 00 00 00\n";
 
-/// Runs over these bytes: how many lines it answered, or why it ended, and what it wrote.
-pub fn run(alloc: Global, input: &[u8], turns: u32) -> (Result<u64, EditorError>, Vec<u8>) {
+// Runs over these bytes: how many lines it answered, or why it ended, and what it wrote.
+fn run(alloc: Global, input: &[u8], turns: u32) -> (Result<u64, EditorError>, Vec<u8>) {
     let mut reader = input;
     let mut out = Vec::new(alloc);
     let answered = run_in_memory(alloc, &mut reader, &mut out, turns);
     (answered, out)
 }
 
-// Input, how many lines it has, and their answers.
-#[rattlefmt::skip]
-const LINES: &[(&[u8], u64, &[u8])] = &[
-    (b"", 0, b""),
-    (ROW, 3, ROW_ANSWERS),
-    (b"hex VERTEXES", 1, b"-\n"),
-    (b"vertex -16384 16383\nhex VERTEXES\nvertex 16384 0\nvertex -16384 16383\nhex VERTEXES\n", 5,
-        b"ok 0\n00 c0 ff 3f\nno 2\nno 10\n00 c0 ff 3f\n"),
-    (b"vertex 00 0\nvertex -0 0\nvertex  1 1\n\nvertex 1\n", 5, b"no 1\nno 1\nno 1\nno 1\nno 1\n"),
-    (b"hex\nhex  VERTEXES\nhex VERTEXES \nhex vertexes\n hex VERTEXES\n", 5, b"no 1\nno 1\nno 1\nno 1\nno 1\n"),
-    (b"vertex 0 0\r\nvertex 0 0\n", 2, b"no 1\nok 0\n"),
-    (b"vertex 1 2\nvertex 3 4", 2, b"ok 0\nok 1\n"),
-    (b"\n\n\n", 3, b"no 1\nno 1\nno 1\n"),
-];
-
-// A run over this input answers this many lines, with this output.
-fn expect_run(rt: &impl Abort, alloc: Global, input: &[u8], turns: u32, want: (u64, &[u8])) {
+// How many lines of this input are answered, or why the run ends, and what it writes.
+fn told(alloc: Global, input: &[u8], turns: u32) -> Result<String, Fail> {
     let (answered, out) = run(alloc, input, turns);
-    let found = (input, answered, out.as_slice());
-    same(rt, &found, &(input, Ok(want.0), want.1));
+    let out = String::from_utf8(out)?;
+    Ok(format!(in alloc; "{answered:?} {out}")?)
 }
 
-#[test]
-fn answers_lines(rt: HostRuntime) {
-    for &(input, count, wanted) in LINES {
-        expect_run(&rt, rt.alloc(), input, 2, (count, wanted));
+/// The answers to the lines of a row behind its first one, which says what is tested.
+pub fn answered(alloc: Global, row: &str) -> Result<String, Fail> {
+    let (_, lines) = row.split_once('\n').unwrap_or(("", row));
+    let (answered, out) = run(alloc, lines.as_bytes(), 2);
+    match answered {
+        Ok(_) => Ok(String::from_utf8(out)?),
+        Err(_) => Err(Fail::from("the run ended early")),
     }
+}
+
+// Input, how many lines it has, and their answers.
+const LINES: &str = "\
+    ~Ok(0) ^\
+    vertex 0 0\nvertex 128 0\nhex VERTEXES\n~Ok(3) ok 0\nok 1\n00 00 00 00 80 00 00 00\n^\
+    hex VERTEXES~Ok(1) -\n^\
+    vertex -16384 16383\nhex VERTEXES\nvertex 16384 0\nvertex -16384 16383\nhex VERTEXES\n~Ok(5) ok 0\n\
+    00 c0 ff 3f\nno 2\nno 10\n00 c0 ff 3f\n^\
+    vertex 00 0\nvertex -0 0\nvertex  1 1\n\nvertex 1\n~Ok(5) no 1\nno 1\nno 1\nno 1\nno 1\n^\
+    hex\nhex  VERTEXES\nhex VERTEXES \nhex vertexes\n hex VERTEXES\n~Ok(5) no 1\nno 1\nno 1\nno 1\nno 1\n^\
+    vertex 0 0\r\nvertex 0 0\n~Ok(2) no 1\nok 0\n^\
+    vertex 1 2\nvertex 3 4~Ok(2) ok 0\nok 1\n^\
+    \n\n\n~Ok(3) no 1\nno 1\nno 1\n";
+
+#[test]
+fn answers_lines(rt: HostRuntime) -> Result<(), Fail> {
+    expect_rows(rt.alloc(), LINES, |alloc, input| {
+        told(alloc, input.as_bytes(), 2)
+    })
 }
 
 // The line `vertex 0 ` with this many digits after it.
-fn long_line(alloc: Global, digits: usize) -> Result<Vec<u8>, Fail> {
-    let mut line = Vec::from_slice(alloc, b"vertex 0 ")?;
+fn long_line(alloc: Global, digits: u32) -> Result<String, Fail> {
+    let mut line = format!(in alloc; "vertex 0 ")?;
     for _ in 0..digits {
-        line.push(b'1')?;
+        line.push_str("1")?;
     }
-    line.push(b'\n')?;
+    line.push_str("\n")?;
     Ok(line)
 }
 
 // How many digits the line has, and its answer. In a line of 256 bytes the number is out of its range; a longer line is
 // no command, however long it is.
-const DIGITS: &[(usize, &[u8])] = &[
-    (247, b"no 2\n"),
-    (248, b"no 1\n"),
-    (249, b"no 1\n"),
-    (9000, b"no 1\n"),
-];
+const DIGITS: &str = "\
+    247~Ok(1) no 2\n^\
+    248~Ok(1) no 1\n^\
+    249~Ok(1) no 1\n^\
+    9000~Ok(1) no 1\n";
 
 #[test]
 fn refuses_long_lines(rt: HostRuntime) -> Result<(), Fail> {
-    for &(digits, wanted) in DIGITS {
-        let line = long_line(rt.alloc(), digits)?;
-        expect_run(&rt, rt.alloc(), &line, 4, (1, wanted));
-    }
-    Ok(())
+    expect_rows(rt.alloc(), DIGITS, |alloc, digits| {
+        told(alloc, long_line(alloc, digits.parse()?)?.as_bytes(), 4)
+    })
 }
 
 // The lines after a long one are answered as usual.
+const BEHIND: &str = "4090~Ok(4) no 1\nok 0\nok 1\n00 00 00 00 80 00 00 00\n";
+
+// The answers to a long line and those behind it.
+fn behind(alloc: Global, digits: &str) -> Result<String, Fail> {
+    let mut lines = long_line(alloc, digits.parse()?)?;
+    lines.push_str("vertex 0 0\nvertex 128 0\nhex VERTEXES\n")?;
+    told(alloc, lines.as_bytes(), 3)
+}
+
 #[test]
 fn answers_lines_behind_a_long_one(rt: HostRuntime) -> Result<(), Fail> {
-    let mut lines = long_line(rt.alloc(), 4090)?;
-    lines.extend_from_slice(ROW)?;
-    let wanted = b"no 1\nok 0\nok 1\n00 00 00 00 80 00 00 00\n";
-    expect_run(&rt, rt.alloc(), &lines, 3, (4, wanted));
-    Ok(())
+    expect_rows(rt.alloc(), BEHIND, behind)
 }
 
 // Whether a run over this input uses up its turns, with this output.

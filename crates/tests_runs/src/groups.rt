@@ -1,6 +1,7 @@
 //! Runs whose commands are put on the disk together, over disks on which each call in turn fails.
 
 use crate::expect::same;
+use crate::rows::expect_rows;
 use crate::sweeping::{GEOMETRY, ROWS, Row, Way, failing, input, sweep_all};
 use run_edit::run;
 use std::alloc::Global;
@@ -62,7 +63,7 @@ impl Way for Running {
         &self,
         rt: &R,
         alloc: Global,
-        row: &Row,
+        row: &Row<'_>,
         fault: (u64, u32),
     ) -> Result<(u32, FaultDisk<MemoryDisk>), Fail> {
         let lines = input(alloc, row.count)?;
@@ -82,21 +83,22 @@ fn puts_all_or_nothing(rt: HostRuntime) -> Result<(), Fail> {
     sweep_all(&Running, &rt, rt.alloc(), ROWS)
 }
 
-// Lines of one turn, the call that fails, and the answers: a refused line keeps its refusal unless it stands behind one
-// that was answered `no 30`, and a query is answered about what is on the disk.
-const MIXED: &[(u64, &[u8])] = &[
-    (9, b"no 1\nno 30\nno 32\nno 32\nno 32\nno 32\n"),
-    (12, b"no 1\nno 30\nno 32\nno 32\nno 32\nno 32\n"),
-    (13, b"no 1\nok 0\nno 10\nok 1\n0 MAP01\ncurrent 0\nno 30\n"),
-    (99, b"no 1\nok 0\nno 10\nok 1\n0 MAP01\ncurrent 0\nok 2\n"),
-];
+// The call that fails, and the answers to lines of one turn: a refused line keeps its refusal unless it stands behind
+// one that was answered `no 30`, and a query is answered about what is on the disk.
+const MIXED: &str = "\
+    9~no 1\nno 30\nno 32\nno 32\nno 32\nno 32\n^\
+    12~no 1\nno 30\nno 32\nno 32\nno 32\nno 32\n^\
+    13~no 1\nok 0\nno 10\nok 1\n0 MAP01\ncurrent 0\nno 30\n^\
+    99~no 1\nok 0\nno 10\nok 1\n0 MAP01\ncurrent 0\nok 2\n";
+
+// What a run over such lines writes.
+fn answered(alloc: Global, call: &str) -> Result<String, Fail> {
+    let lines = b"no command\nvertex 0 0\nvertex 0 0\nvertex 1 0\nmaps\nvertex 2 0\n".as_slice();
+    let ended = fail_within(alloc, GEOMETRY, lines, (call.parse()?, 0))?;
+    Ok(String::from_utf8(ended.out)?)
+}
 
 #[test]
 fn answers_refused_lines_and_queries(rt: HostRuntime) -> Result<(), Fail> {
-    let lines = b"no command\nvertex 0 0\nvertex 0 0\nvertex 1 0\nmaps\nvertex 2 0\n".as_slice();
-    for &(call, wanted) in MIXED {
-        let ended = fail_within(rt.alloc(), GEOMETRY, lines, (call, 0))?;
-        same(&rt, &(call, ended.out.as_slice()), &(call, wanted));
-    }
-    Ok(())
+    expect_rows(rt.alloc(), MIXED, answered)
 }

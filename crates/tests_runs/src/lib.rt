@@ -15,6 +15,7 @@ mod expect;
 mod groups;
 #[cfg(test)]
 mod project_run;
+pub mod rows;
 #[cfg(test)]
 mod scripts;
 pub mod streams;

@@ -1,6 +1,7 @@
 //! Lines over a project.
 
 use crate::expect::same;
+use crate::rows::{expect_rows, halves};
 use crate::streams::Narrow;
 use run_edit::{EditorError, answer, build_after_any_stop, run};
 use std::alloc::Global;
@@ -16,15 +17,15 @@ fn failing(alloc: Global, call: u64) -> Result<Project<FaultDisk<MemoryDisk>>, F
     Ok(created(alloc, FaultDisk::new(empty_disk(alloc)?, call, 0), SMALL)?)
 }
 
-const LINES: &[(&[u8], &[u8])] = &[
-    (b"vertex 0 0", b"no 30\n"),
-    (b"vertex 1 0", b"no 32\n"),
-    (b"count", b"no 32\n"),
-    (b"hex VERTEXES", b"no 32\n"),
-    (b"maps", b"no 32\n"),
-    (b"build", b"no 32\n"),
-    (b"no command", b"no 32\n"),
-];
+// Lines and their answers after a fault.
+const LINES: &str = "\
+    vertex 0 0~no 30\n^\
+    vertex 1 0~no 32\n^\
+    count~no 32\n^\
+    hex VERTEXES~no 32\n^\
+    maps~no 32\n^\
+    build~no 32\n^\
+    no command~no 32\n";
 
 // The answer to a line over a project.
 fn answered<D: Disk>(
@@ -43,9 +44,10 @@ fn answer_all<D: Disk>(
     alloc: Global,
     project: &mut Project<D>,
 ) -> Result<(), EditorError> {
-    for &(line, wanted) in LINES {
-        let out = answered(alloc, project, line)?;
-        same(rt, &(line, out.as_slice()), &(line, wanted));
+    for row in LINES.split('^') {
+        let (line, wanted) = halves(row);
+        let out = answered(alloc, project, line.as_bytes())?;
+        same(rt, &(line, out.as_slice()), &(line, wanted.as_bytes()));
     }
     same(rt, &vertices(project), &0);
     Ok(())
@@ -60,40 +62,28 @@ fn answers_no_line_after_a_fault(rt: HostRuntime) -> Result<(), Fail> {
     Ok(())
 }
 
-// The device call that fails, what a run over the project writes, and how many vertices the project then has. The lines
-// before the query are put together, by four calls, and the one behind it by four others.
-const RUNS: &[(u64, &[u8], u32)] = &[
-    (9, b"no 30\nno 32\nno 32\nno 32\n", 0),
-    (12, b"no 30\nno 32\nno 32\nno 32\n", 0),
-    (
-        13,
-        b"ok 0\nok 1\nvertices 2 sectors 0 sides 0 lines 0 things 0\nno 30\n",
-        2,
-    ),
-    (
-        99,
-        b"ok 0\nok 1\nvertices 2 sectors 0 sides 0 lines 0 things 0\nok 2\n",
-        3,
-    ),
-];
+// The device call that fails; how a run over the project ends, how many vertices the project then has, and what the run
+// writes. The lines before the query are put together, by four calls, and the one behind it by four others.
+const RUNS: &str = "\
+    9~Ok(4) 0 no 30\nno 32\nno 32\nno 32\n^\
+    12~Ok(4) 0 no 30\nno 32\nno 32\nno 32\n^\
+    13~Ok(4) 2 ok 0\nok 1\nvertices 2 sectors 0 sides 0 lines 0 things 0\nno 30\n^\
+    99~Ok(4) 3 ok 0\nok 1\nvertices 2 sectors 0 sides 0 lines 0 things 0\nok 2\n";
 
-// Runs over such a project: how the run ended, how many vertices the project has, and what the run wrote.
-fn run_over(alloc: Global, call: u64) -> Result<(Result<u64, EditorError>, u32, Vec<u8>), Fail> {
-    let mut project = failing(alloc, call)?;
+// Runs over such a project.
+fn run_over(alloc: Global, call: &str) -> Result<String, Fail> {
+    let mut project = failing(alloc, call.parse()?)?;
     let mut input = b"vertex 0 0\nvertex 1 0\ncount\nvertex 2 0\n".as_slice();
     let mut out = Vec::new(alloc);
     let answered = run(alloc, &mut project, &mut input, &mut out, 2);
-    Ok((answered, vertices(&project), out))
+    let count = vertices(&project);
+    let out = String::from_utf8(out)?;
+    Ok(format!(in alloc; "{answered:?} {count} {out}")?)
 }
 
 #[test]
 fn runs_over_a_project(rt: HostRuntime) -> Result<(), Fail> {
-    for &(call, wanted, count) in RUNS {
-        let (answered, found, out) = run_over(rt.alloc(), call)?;
-        let told = (call, answered, found, out.as_slice());
-        same(&rt, &told, &(call, Ok(4), count, wanted));
-    }
-    Ok(())
+    expect_rows(rt.alloc(), RUNS, run_over)
 }
 
 #[test]

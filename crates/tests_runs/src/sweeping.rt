@@ -2,6 +2,7 @@
 //! after stops of all kinds. Runs and drawings of scripts share this.
 
 use crate::expect::same;
+use crate::rows::part;
 use std::alloc::Global;
 use std::process::Abort;
 use std::test::Fail;
@@ -16,16 +17,17 @@ pub const GEOMETRY: Geometry = Geometry {
 };
 
 /// So many vertices, each drawn by a line of 10 bytes, and how long the project's journal is.
-pub struct Row {
+#[derive(Drop)]
+pub struct Row<'a> {
     journal: u32,
     pub count: u32,
     // How many of them are on the disk between two puts.
-    kept: &'static [u32],
+    kept: &'a str,
     // How many bytes of a failing write are still written.
-    parts: &'static [u32],
+    parts: &'a str,
 }
 
-impl Row {
+impl Row<'_> {
     /// The lengths of the project's parts.
     pub fn geometry(&self) -> Geometry {
         Geometry {
@@ -35,23 +37,29 @@ impl Row {
     }
 }
 
+// The row that a text has: the journal's length, the count, what is kept, and the parts.
+fn row_of(text: &str) -> Row<'_> {
+    let mut left = text;
+    Row {
+        journal: part(&mut left, ' ').parse::<u32>().unwrap_or(0),
+        count: part(&mut left, ' ').parse::<u32>().unwrap_or(0),
+        kept: part(&mut left, ' '),
+        parts: left,
+    }
+}
+
 /// Groups of 1, 2, 100 and of a full journal. For a line that has no room in the journal a checkpoint comes first, and
 /// then it is put alone.
-#[rattlefmt::skip]
-pub const ROWS: &[Row] = &[
-    Row { journal: 512, count: 1, kept: &[0, 1], parts: &[0, 1, 7, 999] },
-    Row { journal: 512, count: 2, kept: &[0, 2], parts: &[0, 1, 20, 999] },
-    Row { journal: 2048, count: 100, kept: &[0, 100], parts: &[0, 40, 1499] },
-    Row { journal: 512, count: 34, kept: &[0, 34], parts: &[40] },
-    Row { journal: 512, count: 100, kept: &[0, 34, 35, 68, 69, 100], parts: &[40] },
-];
+pub const ROWS: &str = "\
+    512 1 0,1 0,1,7,999^\
+    512 2 0,2 0,1,20,999^\
+    2048 100 0,100 0,40,1499^\
+    512 34 0,34 40^\
+    512 100 0,34,35,68,69,100 40";
 
 /// Twenty lines fill more than half of the journal, and then there is no room for an area with its four vertices: what
 /// waits is put, a checkpoint empties the journal, and the area is put as a whole.
-#[rattlefmt::skip]
-pub const WITH_AN_AREA: &[Row] = &[
-    Row { journal: 512, count: 24, kept: &[0, 20, 24], parts: &[0, 40, 999] },
-];
+pub const WITH_AN_AREA: &str = "512 24 0,20,24 0,40,999";
 
 /// The lines that draw so many vertices.
 pub fn input(alloc: Global, count: u32) -> Result<Vec<u8>, Fail> {
@@ -74,15 +82,35 @@ pub fn failing(
     Ok(created(alloc, FaultDisk::new(disk, fault.0, fault.1), geometry)?)
 }
 
+// The next number behind this one, if there is one.
+fn next_kept(kept: &str, had: u32) -> Option<u32> {
+    for word in kept.split(',') {
+        let n = word.parse::<u32>().unwrap_or(0);
+        if n > had {
+            return Some(n);
+        }
+    }
+    None
+}
+
+// Whether one of the numbers is this one.
+fn is_kept(kept: &str, had: u32) -> bool {
+    for word in kept.split(',') {
+        if word.parse::<u32>() == Ok(had) {
+            return true;
+        }
+    }
+    false
+}
+
 // Whether the project of a disk has as many vertices as it had, or as many as after the next put.
-fn is_either<D: Disk + Drop>(alloc: Global, disk: D, had: u32, kept: &[u32]) -> Result<bool, Fail> {
+fn is_either<D: Disk + Drop>(alloc: Global, disk: D, had: u32, kept: &str) -> Result<bool, Fail> {
     let count = found(alloc, disk)?.0;
-    let next = kept.iter().find(|n| **n > had);
-    Ok(count == had || next.is_some_and(|n| *n == count))
+    Ok(count == had || next_kept(kept, had) == Some(count))
 }
 
 // The same after stops of all kinds.
-fn are_either(alloc: Global, disk: &MemoryDisk, had: u32, kept: &[u32]) -> Result<bool, Fail> {
+fn are_either(alloc: Global, disk: &MemoryDisk, had: u32, kept: &str) -> Result<bool, Fail> {
     for &fill in FILLS {
         if !is_either(alloc, disk.stop(alloc, fill, false)?, had, kept)?
             || !is_either(alloc, disk.stop(alloc, fill, true)?, had, kept)?
@@ -100,7 +128,7 @@ pub trait Way {
         &self,
         rt: &R,
         alloc: Global,
-        row: &Row,
+        row: &Row<'_>,
         fault: (u64, u32),
     ) -> Result<(u32, FaultDisk<MemoryDisk>), Fail>;
 }
@@ -110,11 +138,11 @@ fn fail_once<W: Way, R: Abort>(
     way: &W,
     rt: &R,
     alloc: Global,
-    row: &Row,
+    row: &Row<'_>,
     fault: (u64, u32),
 ) -> Result<bool, Fail> {
     let (had, disk) = way.drawn(rt, alloc, row, fault)?;
-    same(rt, &(fault, row.kept.contains(&had)), &(fault, true));
+    same(rt, &(fault, is_kept(row.kept, had)), &(fault, true));
     let is_either = are_either(alloc, disk.inner(), had, row.kept)?;
     same(rt, &(fault, is_either), &(fault, true));
     Ok(had == row.count)
@@ -125,7 +153,7 @@ fn sweep<W: Way, R: Abort>(
     way: &W,
     rt: &R,
     alloc: Global,
-    row: &Row,
+    row: &Row<'_>,
     part: u32,
 ) -> Result<(), Fail> {
     for k in 9_u64..200 {
@@ -136,17 +164,18 @@ fn sweep<W: Way, R: Abort>(
     Err(Fail::from("too many calls"))
 }
 
+// The same with each part of a row.
+fn sweep_row<W: Way, R: Abort>(way: &W, rt: &R, alloc: Global, row: &Row<'_>) -> Result<(), Fail> {
+    for part in row.parts.split(',') {
+        sweep(way, rt, alloc, row, part.parse()?)?;
+    }
+    Ok(())
+}
+
 /// The same with each of these rows.
-pub fn sweep_all<W: Way, R: Abort>(
-    way: &W,
-    rt: &R,
-    alloc: Global,
-    rows: &[Row],
-) -> Result<(), Fail> {
-    for row in rows {
-        for &part in row.parts {
-            sweep(way, rt, alloc, row, part)?;
-        }
+pub fn sweep_all<W: Way, R: Abort>(way: &W, rt: &R, alloc: Global, rows: &str) -> Result<(), Fail> {
+    for text in rows.split('^') {
+        sweep_row(way, rt, alloc, &row_of(text))?;
     }
     Ok(())
 }

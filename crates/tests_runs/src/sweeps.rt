@@ -2,6 +2,7 @@
 //! stops.
 
 use crate::expect::same;
+use crate::rows::halves;
 use map_commands::{apply, parse};
 use map_tables::Maps;
 use run_edit::run;
@@ -35,19 +36,19 @@ fn draw(maps: &mut Maps, line: &[u8]) {
 fn put_bodies(
     alloc: Global,
     maps: &mut Maps,
-    lines: &[&[u8]],
+    lines: &str,
     bodies: &mut Vec<Vec<u8>>,
 ) -> Result<(), Fail> {
     bodies.push(maps.encode_body(alloc)?)?;
-    for line in lines {
-        draw(maps, *line);
+    for line in lines.split(';') {
+        draw(maps, line.as_bytes());
         bodies.push(maps.encode_body(alloc)?)?;
     }
     Ok(())
 }
 
 // The body before each of these lines, and after the last one.
-fn bodies(alloc: Global, lines: &[&[u8]]) -> Result<Vec<Vec<u8>>, Fail> {
+fn bodies(alloc: Global, lines: &str) -> Result<Vec<Vec<u8>>, Fail> {
     let mut maps = Maps::new(alloc);
     let mut bodies = Vec::new(alloc);
     put_bodies(alloc, &mut maps, lines, &mut bodies)?;
@@ -56,13 +57,13 @@ fn bodies(alloc: Global, lines: &[&[u8]]) -> Result<Vec<Vec<u8>>, Fail> {
 
 // Applies these lines up to the one during which a call fails, and returns how many were done. An empty line stands for
 // a checkpoint.
-fn done<D: Disk>(project: &mut Project<D>, lines: &[&[u8]]) -> usize {
+fn done<D: Disk>(project: &mut Project<D>, lines: &str) -> usize {
     let mut n = 0_usize;
-    for line in lines {
+    for line in lines.split(';') {
         if line.is_empty() {
             let _ = project.checkpoint();
         } else {
-            let _ = project.apply(*line);
+            let _ = project.apply(line.as_bytes());
         }
         if project.must_reopen() {
             return n;
@@ -128,7 +129,7 @@ struct Ended {
 // Applies these lines over a disk on which the call `fault` fails.
 fn fail_within(
     alloc: Global,
-    lines: &[&[u8]],
+    lines: &str,
     bodies: &[Vec<u8>],
     fault: (u64, u32),
 ) -> Result<Ended, Fail> {
@@ -176,7 +177,7 @@ fn expect_ended(
 fn fail_once(
     rt: &impl Abort,
     alloc: Global,
-    lines: &[&[u8]],
+    lines: &str,
     bodies: &[Vec<u8>],
     fault: (u64, u32),
 ) -> Result<bool, Fail> {
@@ -188,60 +189,20 @@ fn fail_once(
     }
 }
 
-// Lines, and how many bytes of a failing write are still written: none, one, half of a record or a slot, and all.
-type List = (&'static [&'static [u8]], &'static [u32]);
+// Lines, of which an empty one stands for a checkpoint, and how many bytes of a failing write are still written: none,
+// one, half of a record or a slot, and all.
+const MAPS: &str = "\
+    vertex 0 0;map MAP02;vertex 1 1;drop-map MAP02;drop-map MAP01;name E1M1~0 1 7 9 99";
 
-const MAPS: List = (
-    &[
-        b"vertex 0 0",
-        b"map MAP02",
-        b"vertex 1 1",
-        b"drop-map MAP02",
-        b"drop-map MAP01",
-        b"name E1M1",
-    ],
-    &[0, 1, 7, 9, 99],
-);
+const CHECKPOINTS: &str = "\
+    vertex 0 0;;;map MAP02;;drop-map MAP01;vertex 1 1;~0 1 7 9 18 27 99";
 
-const CHECKPOINTS: List = (
-    &[
-        b"vertex 0 0",
-        b"",
-        b"",
-        b"map MAP02",
-        b"",
-        b"drop-map MAP01",
-        b"vertex 1 1",
-        b"",
-    ],
-    &[0, 1, 7, 9, 18, 27, 99],
-);
-
-const FULL: List = (
-    &[
-        b"vertex 0 0",
-        b"vertex 1 0",
-        b"vertex 2 0",
-        b"vertex 3 0",
-        b"vertex 4 0",
-        b"vertex 5 0",
-        b"vertex 6 0",
-        b"vertex 7 0",
-        b"map MAP02",
-        b"",
-        b"vertex 0 0",
-    ],
-    &[0, 1, 7, 30, 99],
-);
+const FULL: &str = "\
+    vertex 0 0;vertex 1 0;vertex 2 0;vertex 3 0;vertex 4 0;vertex 5 0;vertex 6 0;vertex 7 0;map MAP02;;vertex 0 0~\
+    0 1 7 30 99";
 
 // Fails each call of these lines in turn, from the call `first` on, after `part` bytes of its write.
-fn sweep(
-    rt: &impl Abort,
-    alloc: Global,
-    lines: &[&[u8]],
-    first: u64,
-    part: u32,
-) -> Result<(), Fail> {
+fn sweep(rt: &impl Abort, alloc: Global, lines: &str, first: u64, part: u32) -> Result<(), Fail> {
     let bodies = bodies(alloc, lines)?;
     for k in first..400 {
         if fail_once(rt, alloc, lines, bodies.as_slice(), (k, part))? {
@@ -251,13 +212,24 @@ fn sweep(
     Err(Fail::from("too many calls"))
 }
 
-// The same for each part of the list.
-fn sweep_list(rt: &impl Abort, alloc: Global, list: List) -> Result<(), Fail> {
-    let (lines, parts) = list;
-    for &part in parts {
-        sweep(rt, alloc, lines, 9, part)?;
+// The same for each part.
+fn sweep_parts(
+    rt: &impl Abort,
+    alloc: Global,
+    lines: &str,
+    first: u64,
+    parts: &str,
+) -> Result<(), Fail> {
+    for part in parts.split(' ') {
+        sweep(rt, alloc, lines, first, part.parse()?)?;
     }
     Ok(())
+}
+
+// The same for lines and parts in one text.
+fn sweep_list(rt: &impl Abort, alloc: Global, list: &str) -> Result<(), Fail> {
+    let (lines, parts) = halves(list);
+    sweep_parts(rt, alloc, lines, 9, parts)
 }
 
 #[test]
@@ -276,39 +248,40 @@ fn keeps_each_line_that_fills_a_slot(rt: HostRuntime) -> Result<(), Fail> {
 }
 
 // 34 records of four calls each fill a journal. For the line after them a checkpoint comes first.
-const FILLING: &[&[u8]] = &[NAMED; 36];
-
-const NAMED: &[u8] = b"name MAP01";
+const FILLING: &str = "\
+    name MAP01;name MAP01;name MAP01;name MAP01;name MAP01;name MAP01;name MAP01;name MAP01;name MAP01;\
+    name MAP01;name MAP01;name MAP01;name MAP01;name MAP01;name MAP01;name MAP01;name MAP01;name MAP01;\
+    name MAP01;name MAP01;name MAP01;name MAP01;name MAP01;name MAP01;name MAP01;name MAP01;name MAP01;\
+    name MAP01;name MAP01;name MAP01;name MAP01;name MAP01;name MAP01;name MAP01;name MAP01;name MAP01";
 
 #[test]
 fn keeps_each_line_that_fills_a_journal(rt: HostRuntime) -> Result<(), Fail> {
     sweep(&rt, rt.alloc(), FILLING, 9, 0)
 }
 
-// How many bytes of a write are still written that fails during the last line but one.
-const LAST_PARTS: &[u32] = &[1, 7, 16, 99];
-
+// A write fails during the last line but one.
 #[test]
 fn keeps_the_line_that_has_no_room(rt: HostRuntime) -> Result<(), Fail> {
-    for &part in LAST_PARTS {
-        sweep(&rt, rt.alloc(), FILLING, 125, part)?;
-    }
-    Ok(())
+    sweep_parts(&rt, rt.alloc(), FILLING, 125, "1 7 16 99")
 }
 
 // Lines with their answers over a project whose body may have 51 bytes.
-#[rattlefmt::skip]
-const ANSWERS: &[(&[u8], &[u8])] = &[
-    (b"vertex 0 0", b"ok 0\n"), (b"count", b"vertices 1 sectors 0 sides 0 lines 0 things 0\n"),
-    (b"map MAP02", b"ok 1\n"), (b"vertex 0 0", b"ok 0\n"), (b"drop-map MAP02", b"no 19\n"),
-    (b"drop-map MAP01", b"ok 0\n"), (b"maps", b"0 MAP02\ncurrent 0\n"), (b"vertex 1 1", b"ok 1\n"),
-];
+const ANSWERS: &str = "\
+    vertex 0 0~ok 0\n^\
+    count~vertices 1 sectors 0 sides 0 lines 0 things 0\n^\
+    map MAP02~ok 1\n^\
+    vertex 0 0~ok 0\n^\
+    drop-map MAP02~no 19\n^\
+    drop-map MAP01~ok 0\n^\
+    maps~0 MAP02\ncurrent 0\n^\
+    vertex 1 1~ok 1\n";
 
 // The lines as the input of a run.
 fn input(alloc: Global) -> Result<Vec<u8>, Fail> {
     let mut text = Vec::new(alloc);
-    for &(line, _) in ANSWERS {
-        text.extend_from_slice(line)?;
+    for row in ANSWERS.split('^') {
+        let (line, _) = halves(row);
+        text.extend_from_slice(line.as_bytes())?;
         text.push(b'\n')?;
     }
     Ok(text)
@@ -318,14 +291,16 @@ fn input(alloc: Global) -> Result<Vec<u8>, Fail> {
 fn answers(alloc: Global, n: usize) -> Result<Vec<u8>, Fail> {
     let mut text = Vec::new(alloc);
     let mut at = 0_usize;
-    for &(_, answer) in ANSWERS {
-        if at < n {
-            text.extend_from_slice(answer)?;
+    for row in ANSWERS.split('^') {
+        let (_, answer) = halves(row);
+        let told = if at < n {
+            answer
         } else if at == n {
-            text.extend_from_slice(b"no 30\n")?;
+            "no 30\n"
         } else {
-            text.extend_from_slice(b"no 32\n")?;
-        }
+            "no 32\n"
+        };
+        text.extend_from_slice(told.as_bytes())?;
         at = at.saturating_add(1);
     }
     Ok(text)
@@ -333,8 +308,7 @@ fn answers(alloc: Global, n: usize) -> Result<Vec<u8>, Fail> {
 
 // The first line of those that are put while each call of a run fails, in turn: the queries part the commands into
 // three groups, which make four calls each.
-#[rattlefmt::skip]
-const FAILED: &[usize] = &[0, 0, 0, 0, 2, 2, 2, 2, 7, 7, 7, 7, 8, 8, 8, 8];
+const FAILED: &str = "0 0 0 0 2 2 2 2 7 7 7 7 8 8 8 8";
 
 // What a run over a disk writes whose k-th call fails.
 fn told(alloc: Global, lines: &[u8], k: u64, part: u32) -> Result<Vec<u8>, Fail> {
@@ -357,8 +331,8 @@ fn is_told(alloc: Global, lines: &[u8], n: usize, fault: (u64, u32)) -> Result<b
 // Each call fails in turn, and the answers are tested.
 fn expect_answers(rt: &impl Abort, alloc: Global, lines: &[u8], part: u32) -> Result<(), Fail> {
     let mut k = 9_u64;
-    for &n in FAILED {
-        let found = is_told(alloc, lines, n, (k, part))?;
+    for n in FAILED.split(' ') {
+        let found = is_told(alloc, lines, n.parse()?, (k, part))?;
         same(rt, &(k, part, found), &(k, part, true));
         k = k.saturating_add(1);
     }

@@ -1,7 +1,7 @@
 //! Which refused lines of a script are told behind the first one.
 ghost use Rattle.std.specs.Prelude.{◌≡◌, IfOk, length};
 
-use crate::expect::same;
+use crate::rows::expect_rows;
 use map_script::{DrawError, Names, ScriptFiles, ScriptLines, script_lines};
 use run_canvas::{Canvas, Draft};
 use run_script::draw;
@@ -37,8 +37,8 @@ fn heads(alloc: Global, text: &[u8]) -> Result<Vec<u8>, Fail> {
 
 // What is told of the lines behind the first refused one of a script that is drawn over the empty map, without the
 // reasons.
-fn further(alloc: Global, script: &[u8]) -> Result<Vec<u8>, Fail> {
-    let lines = script_lines(alloc, script)?;
+fn further(alloc: Global, script: &str) -> Result<String, Fail> {
+    let lines = script_lines(alloc, script.as_bytes())?;
     let files = files_of(alloc, &lines)?;
     let mut draft = Draft::new(alloc);
     let mut names = Names::new(alloc);
@@ -48,87 +48,69 @@ fn further(alloc: Global, script: &[u8]) -> Result<Vec<u8>, Fail> {
     };
     let first = Draft::new(alloc);
     let told = further_told(alloc, first.maps(), first.cap(), &lines, &files, &stop)?;
-    heads(alloc, &told)
+    Ok(String::from_utf8(heads(alloc, &told)?)?)
 }
 
-// Scripts, and which lines are told behind the first refused one.
-#[rattlefmt::skip]
-const SCRIPTS: &[(&[u8], &[u8])] = &[
-    // a place that is taken: nothing that was left out frees it, or something might
-    (b"room 0 0 64 64 0 128 FLOOR4_8 CEIL3_5 STARTAN3 160\nvertx 300 300\nvertex 0 0",
-        b"s:3: vertex 0 0: 10 PlaceTaken\n"),
-    (b"vertex 0 0\nvertx 9 9\nroom 0 0 64 64 0 128 FLOOR4_8 CEIL3_5 STARTAN3 160",
-        b"s:3: room 0 0 64 64 0 128 FLOOR4_8 CEIL3_5 STARTAN3 160: 10 PlaceTaken\n"),
-    (b"vertex 0 0\ndrop line 5\nvertex 0 0", b"s:3: vertex 0 0: 10 PlaceTaken\n"),
-    (b"vertex 0 0\ndrop vertx 0\nvertex 0 0", b""),
-    (b"vertex 0 0\ndrp vertex 0\nvertex 0 0", b""),
-    (b"vertex 0 0\nremove vertex 0\nvertex 0 0", b""),
-    (b"vertex 0 0\nmove-vertex 0 99999 0\nvertex 0 0", b""),
-    (b"vertx 9 9\nvertex 0 0\nvertex 1 1\nmove-vertex 1 2 2\nvertex 0 0", b""),
-    (b"vertex 0 0\nvertex 8 8\nvertx 9 9\nmove-vertex 0 8 8", b""),
-    (b"vertex 0 0\nvertex 8 8\nthing 0 0 400 1 7\nmove-vertex 0 8 8", b"s:4: move-vertex 0 8 8: 10 PlaceTaken\n"),
-    // how many items there are
-    (b"vertx 0 0\nline 0 1 1 0 0 0 -", b""),
-    (b"thing 0 0 400 1 7\nline 0 1 1 0 0 0 -", b"s:2: line 0 1 1 0 0 0 -: 3 NoVertex\n"),
-    (b"vertx 0 0\nside 0 0 - - - 0", b"s:2: side 0 0 - - - 0: 4 NoSector\n"),
-    (b"secter 0 128 FLOOR4_8 CEIL3_5 160 0 0\nside 0 0 - - - 0", b""),
-    (b"vertx 0 0\ndrop thing 0", b"s:2: drop thing 0: 7 NoThing\n"),
-    (b"thng 0 0 0 1 7\ndrop thing 0", b""),
-    // the words alone
-    (b"room 0 0 64 64 0 128 FLOOR4_8 CEIL3_5 STARTAN3 160\nvertx 1 1\nline 0 0 1 0 0 0 -\nline 0 1 4 0 0 0 -\n\
-        thing 0 0 400 1 7",
-        b"s:3: line 0 0 1 0 0 0 -: 9 SameEnds\ns:4: line 0 1 4 0 0 0 -: 11 TwoSidedWithoutLeft\n\
-        s:5: thing 0 0 400 1 7: 2 OutOfRange\n"),
-    (b"room 0 0 64 64 0 128 FLOOR4_8 CEIL3_5 STARTAN3 160\nvertx 1 1\nchange line 0 FLAGS=4", b""),
-    (b"vertx 0 0\nlet far 99999\nvertex $far 0", b"s:3: vertex $far 0: 2 OutOfRange\n"),
-    (b"vertx 0 0\nfor k 1 1\nthing 0 0 400*$k 1 7\nend", b"s:3: thing 0 0 400*$k 1 7: 2 OutOfRange\n"),
-    (b"vertx 0 0\nv = vertex 5 5\nthing 0 0 400+$v*1 1 7", b""),
-    (b"vertx 0 0\nat 16383 0\nvertex 1 0\nend", b"s:3: vertex 1 0: 2 OutOfRange\n"),
-    (b"vertx 0 0\nv = vertex 5 5\nat 16370+$v*1 0\nvertex 99 0\nend", b""),
-    // names
-    (b"vertx 0 0\nvertex $gap 0", b"s:2: vertex $gap 0: 22 UnknownName\n"),
-    (b"gap = vertx 0 0\nvertex $gap 0\nvertex $gapp 0", b"s:3: vertex $gapp 0: 22 UnknownName\n"),
-    (b"$gap = vertex 0 0\nvertex $gap 1", b""),
-    // places
-    (b"thing 0 0 400 1 7\nsplit $line(300,300) 1 1", b"s:2: split $line(300,300) 1 1: 45 NothingThere\n"),
-    (b"vertx 0 0\nsplit $line(300,300) 1 1", b""),
-    (b"thing 0 0 400 1 7\nchange thing $thing(1,1) ANGLE=0", b""),
-    (b"vertx 0 0\nvertex $late 0\nlate = vertex 9 9", b"s:2: vertex $late 0: 22 UnknownName\n"),
-    // a number out of its range, and a sum
-    (b"h = room 0 0 64 64 0 128 FLOOR4_8 CEIL3_5 STARTAN3 160\nvertx 1 1\nchange sector $h LIGHT=300",
-        b"s:3: change sector $h LIGHT=300: 2 OutOfRange\n"),
-    (b"h = room 0 0 64 64 0 128 FLOOR4_8 CEIL3_5 STARTAN3 160\nvertx 1 1\nlet x $h.line*8\nthing $x 8 400 1 7",
-        b"s:4: thing $x 8 400 1 7: 2 OutOfRange\n"),
-    (b"h = room 0 0 64 64 0 128 FLOOR4_8 CEIL3_5 STARTAN3 160\nvertx 1 1\nthing 0 0 359+$h.vertex+1 1 7", b""),
-    (b"h = room 0 0 64 64 0 128 FLOOR4_8 CEIL3_5 STARTAN3 160\nvertx 1 1\nlet w 5\nsplit $h.north $w/2 64",
-        b"s:4: split $h.north $w/2 64: 46 BadSum\n"),
-    (b"h = room 0 0 64 64 0 128 FLOOR4_8 CEIL3_5 STARTAN3 160\nvertx 1 1\nthing (1+$h.vertex)/2 8 0 1 7", b""),
-    // exchanged letters
-    (b"thign 0 0 0 1 7\nline 0 1 1 0 0 0 -", b"s:2: line 0 1 1 0 0 0 -: 3 NoVertex\n"),
-    (b"vertex 0 0\ndorp vertex 0\nvertex 0 0", b""),
-    // a name that is given again
-    (b"let gap 8\nlet gap $step\nvertex $gap 0\nvertex 8 0\nthing 0 0 400 1 7",
-        b"s:5: thing 0 0 400 1 7: 2 OutOfRange\n"),
-    (b"wall = vertex 0 0\ndrop wall 0\nvertex 0 0\nthing 0 0 400 1 7", b"s:4: thing 0 0 400 1 7: 2 OutOfRange\n"),
-    (b"define post X\nlet X $far\nvertex $X 0\nend\npost 1\nvertex 1 0\nthing 0 0 400 1 7",
-        b"s:7: thing 0 0 400 1 7: 2 OutOfRange\n"),
-    // maps
-    (b"map MAP2\ndrop-map MAP03\nvertex 0 0\nvertex 0 0", b""),
-    (b"vertx 0 0\ndrop-map MAP03", b"s:2: drop-map MAP03: 18 NoSuchMap\n"),
-    // shapes
-    (b"define post\nvertex 0 0\nend\npst\npost\npost", b""),
-    (b"define post\nvertex 0 0\nend\nthing 0 0 400 1 7\npost\npost", b"s:2: vertex 0 0: 10 PlaceTaken\n"),
-    (b"define post\nvertex 0 0\nend\nthng 0 0 0 1 7\nside 0 0 - - - 0", b"s:5: side 0 0 - - - 0: 4 NoSector\n"),
-    // what changes no map
-    (b"hex FOO\ndrop thing 9\nline 0 1 1 0 0 0 -",
-        b"s:2: drop thing 9: 7 NoThing\ns:3: line 0 1 1 0 0 0 -: 3 NoVertex\n"),
-];
+// Scripts, and which lines are told behind the first refused one. In turn: a place that is taken, where nothing that
+// was left out frees it, or something might; how many items there are; the words alone; names; places; a number out of
+// its range, and a sum; exchanged letters; a name that is given again; maps; shapes; and what changes no map.
+const SCRIPTS: &str = "\
+    room 0 0 64 64 0 128 FLOOR4_8 CEIL3_5 STARTAN3 160\nvertx 300 300\nvertex 0 0~s:3: vertex 0 0: 10 PlaceTaken\n^\
+    vertex 0 0\nvertx 9 9\n\
+    room 0 0 64 64 0 128 FLOOR4_8 CEIL3_5 STARTAN3 160~\
+    s:3: room 0 0 64 64 0 128 FLOOR4_8 CEIL3_5 STARTAN3 160: 10 PlaceTaken\n^\
+    vertex 0 0\ndrop line 5\nvertex 0 0~s:3: vertex 0 0: 10 PlaceTaken\n^\
+    vertex 0 0\ndrop vertx 0\nvertex 0 0~^\
+    vertex 0 0\ndrp vertex 0\nvertex 0 0~^\
+    vertex 0 0\nremove vertex 0\nvertex 0 0~^\
+    vertex 0 0\nmove-vertex 0 99999 0\nvertex 0 0~^\
+    vertx 9 9\nvertex 0 0\nvertex 1 1\nmove-vertex 1 2 2\nvertex 0 0~^\
+    vertex 0 0\nvertex 8 8\nvertx 9 9\nmove-vertex 0 8 8~^\
+    vertex 0 0\nvertex 8 8\nthing 0 0 400 1 7\nmove-vertex 0 8 8~s:4: move-vertex 0 8 8: 10 PlaceTaken\n^\
+    vertx 0 0\nline 0 1 1 0 0 0 -~^\
+    thing 0 0 400 1 7\nline 0 1 1 0 0 0 -~s:2: line 0 1 1 0 0 0 -: 3 NoVertex\n^\
+    vertx 0 0\nside 0 0 - - - 0~s:2: side 0 0 - - - 0: 4 NoSector\n^\
+    secter 0 128 FLOOR4_8 CEIL3_5 160 0 0\nside 0 0 - - - 0~^\
+    vertx 0 0\ndrop thing 0~s:2: drop thing 0: 7 NoThing\n^\
+    thng 0 0 0 1 7\ndrop thing 0~^\
+    room 0 0 64 64 0 128 FLOOR4_8 CEIL3_5 STARTAN3 160\nvertx 1 1\nline 0 0 1 0 0 0 -\nline 0 1 4 0 0 0 -\n\
+    thing 0 0 400 1 7~s:3: line 0 0 1 0 0 0 -: 9 SameEnds\ns:4: line 0 1 4 0 0 0 -: 11 TwoSidedWithoutLeft\n\
+    s:5: thing 0 0 400 1 7: 2 OutOfRange\n^\
+    room 0 0 64 64 0 128 FLOOR4_8 CEIL3_5 STARTAN3 160\nvertx 1 1\nchange line 0 FLAGS=4~^\
+    vertx 0 0\nlet far 99999\nvertex $far 0~s:3: vertex $far 0: 2 OutOfRange\n^\
+    vertx 0 0\nfor k 1 1\nthing 0 0 400*$k 1 7\nend~s:3: thing 0 0 400*$k 1 7: 2 OutOfRange\n^\
+    vertx 0 0\nv = vertex 5 5\nthing 0 0 400+$v*1 1 7~^\
+    vertx 0 0\nat 16383 0\nvertex 1 0\nend~s:3: vertex 1 0: 2 OutOfRange\n^\
+    vertx 0 0\nv = vertex 5 5\nat 16370+$v*1 0\nvertex 99 0\nend~^\
+    vertx 0 0\nvertex $gap 0~s:2: vertex $gap 0: 22 UnknownName\n^\
+    gap = vertx 0 0\nvertex $gap 0\nvertex $gapp 0~s:3: vertex $gapp 0: 22 UnknownName\n^\
+    $gap = vertex 0 0\nvertex $gap 1~^\
+    thing 0 0 400 1 7\nsplit $line(300,300) 1 1~s:2: split $line(300,300) 1 1: 45 NothingThere\n^\
+    vertx 0 0\nsplit $line(300,300) 1 1~^\
+    thing 0 0 400 1 7\nchange thing $thing(1,1) ANGLE=0~^\
+    vertx 0 0\nvertex $late 0\nlate = vertex 9 9~s:2: vertex $late 0: 22 UnknownName\n^\
+    h = room 0 0 64 64 0 128 FLOOR4_8 CEIL3_5 STARTAN3 160\nvertx 1 1\n\
+    change sector $h LIGHT=300~s:3: change sector $h LIGHT=300: 2 OutOfRange\n^\
+    h = room 0 0 64 64 0 128 FLOOR4_8 CEIL3_5 STARTAN3 160\nvertx 1 1\nlet x $h.line*8\n\
+    thing $x 8 400 1 7~s:4: thing $x 8 400 1 7: 2 OutOfRange\n^\
+    h = room 0 0 64 64 0 128 FLOOR4_8 CEIL3_5 STARTAN3 160\nvertx 1 1\nthing 0 0 359+$h.vertex+1 1 7~^\
+    h = room 0 0 64 64 0 128 FLOOR4_8 CEIL3_5 STARTAN3 160\nvertx 1 1\nlet w 5\n\
+    split $h.north $w/2 64~s:4: split $h.north $w/2 64: 46 BadSum\n^\
+    h = room 0 0 64 64 0 128 FLOOR4_8 CEIL3_5 STARTAN3 160\nvertx 1 1\nthing (1+$h.vertex)/2 8 0 1 7~^\
+    thign 0 0 0 1 7\nline 0 1 1 0 0 0 -~s:2: line 0 1 1 0 0 0 -: 3 NoVertex\n^\
+    vertex 0 0\ndorp vertex 0\nvertex 0 0~^\
+    let gap 8\nlet gap $step\nvertex $gap 0\nvertex 8 0\nthing 0 0 400 1 7~s:5: thing 0 0 400 1 7: 2 OutOfRange\n^\
+    wall = vertex 0 0\ndrop wall 0\nvertex 0 0\nthing 0 0 400 1 7~s:4: thing 0 0 400 1 7: 2 OutOfRange\n^\
+    define post X\nlet X $far\nvertex $X 0\nend\npost 1\nvertex 1 0\n\
+    thing 0 0 400 1 7~s:7: thing 0 0 400 1 7: 2 OutOfRange\n^\
+    map MAP2\ndrop-map MAP03\nvertex 0 0\nvertex 0 0~^\
+    vertx 0 0\ndrop-map MAP03~s:2: drop-map MAP03: 18 NoSuchMap\n^\
+    define post\nvertex 0 0\nend\npst\npost\npost~^\
+    define post\nvertex 0 0\nend\nthing 0 0 400 1 7\npost\npost~s:2: vertex 0 0: 10 PlaceTaken\n^\
+    define post\nvertex 0 0\nend\nthng 0 0 0 1 7\nside 0 0 - - - 0~s:5: side 0 0 - - - 0: 4 NoSector\n^\
+    hex FOO\ndrop thing 9\nline 0 1 1 0 0 0 -~s:2: drop thing 9: 7 NoThing\ns:3: line 0 1 1 0 0 0 -: 3 NoVertex\n";
 
 #[test]
 fn tells_the_lines_that_hang_on_no_other(rt: HostRuntime) -> Result<(), Fail> {
-    for &(script, wanted) in SCRIPTS {
-        let told = further(rt.alloc(), script)?;
-        same(&rt, &(script, told.as_slice()), &(script, wanted));
-    }
-    Ok(())
+    expect_rows(rt.alloc(), SCRIPTS, further)
 }
