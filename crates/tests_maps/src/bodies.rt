@@ -1,8 +1,8 @@
 //! Bodies of drawn projects, read back in each version of the format, and damaged bodies.
 
 use crate::drawing::drawn;
-use crate::expect::same;
 use crate::maps::{TWO_MAPS, is_refused};
+use crate::rows::{expect_rows, said};
 use map_tables::Maps;
 use std::alloc::Global;
 use std::test::Fail;
@@ -63,25 +63,25 @@ fn the_body_of_the_new_project_takes_no_memory(rt: HostRuntime) {
     assert_eq!(rt; Maps::empty_body().as_slice(), EMPTY);
 }
 
-// An offset in the body, the byte that is put there, and what it damages.
-const SPOILT: &[(usize, u8, &str)] = &[
-    (2, b'N', "the map's name"),
-    (7, b'X', "what follows the map's name"),
-    (10, 2, "the count of things"),
-    (16, 1, "the count of vertices"),
-    (25, 0x80, "a thing's angle"),
-    (30, 2, "a line's vertex"),
-    (30, 1, "a line's two ends"),
-    (34, 4, "the flags of a line without a left side"),
-    (40, 1, "a line's right side"),
-    (42, 1, "a line's left side"),
-    (48, b' ', "a texture's name"),
-    (72, 1, "a side's sector"),
-    (75, 0x40, "a vertex's coordinate"),
-    (78, 0, "the place of a vertex"),
-    (87, b'x', "a flat's name"),
-    (103, 1, "a sector's light"),
-];
+// An offset in the body, the byte that is put there, what it damages, and whether it is refused in the second version
+// and in the first.
+const SPOILT: &str = "\
+    2 78 the map's name|(true, true)\n\
+    7 88 what follows the map's name|(true, true)\n\
+    10 2 the count of things|(true, true)\n\
+    16 1 the count of vertices|(true, true)\n\
+    25 128 a thing's angle|(true, true)\n\
+    30 2 a line's vertex|(true, true)\n\
+    30 1 a line's two ends|(true, true)\n\
+    34 4 the flags of a line without a left side|(true, true)\n\
+    40 1 a line's right side|(true, true)\n\
+    42 1 a line's left side|(true, true)\n\
+    48 32 a texture's name|(true, true)\n\
+    72 1 a side's sector|(true, true)\n\
+    75 64 a vertex's coordinate|(true, true)\n\
+    78 0 the place of a vertex|(true, true)\n\
+    87 120 a flat's name|(true, true)\n\
+    103 1 a sector's light|(true, true)";
 
 // The body in this version, with the byte at an offset replaced.
 fn spoilt(at: usize, byte: u8, version: u8) -> [u8; 108] {
@@ -93,14 +93,21 @@ fn spoilt(at: usize, byte: u8, version: u8) -> [u8; 108] {
     body
 }
 
+// Whether the damaged body of a row is refused.
+fn spoilt_told(alloc: Global, row: &str) -> Result<String, Fail> {
+    let (at, rest) = row.split_once(' ').unwrap_or((row, ""));
+    let (byte, _) = rest.split_once(' ').unwrap_or((rest, ""));
+    let (at, byte) = (at.parse()?, byte.parse()?);
+    let second = is_refused(alloc, &spoilt(at, byte, 2));
+    let first = is_refused(alloc, &spoilt(at, byte, 1));
+    said(alloc, &(second, first))
+}
+
 #[test]
-fn damaged_bodies_are_refused(rt: HostRuntime) {
-    for &(at, byte, what) in SPOILT {
-        let second = is_refused(rt.alloc(), &spoilt(at, byte, 2));
-        let first = is_refused(rt.alloc(), &spoilt(at, byte, 1));
-        same(&rt, &(what, second, first), &(what, true, true));
-    }
+fn damaged_bodies_are_refused(rt: HostRuntime) -> Result<(), Fail> {
+    expect_rows(rt.alloc(), SPOILT, spoilt_told)?;
     let short = is_refused(rt.alloc(), &BODY[..107]);
     let shorter = is_refused(rt.alloc(), &BODY[..19]);
     assert_eq!(rt; (short, shorter), (true, true));
+    Ok(())
 }

@@ -12,7 +12,7 @@ use std::test::Fail;
 const LINES: u32 = 48;
 
 // Where the lines come from, and how far apart the places are on which they end.
-const DRAWINGS: [(u32, i32); 6] = [(1, 1), (2, 1), (3, 7), (4, 100), (5, 1000), (6, 2000)];
+const DRAWINGS: &str = "1 1;2 1;3 7;4 100;5 1000;6 2000";
 
 // A number that follows from others, without an order that is easily seen.
 fn mixed(seed: u32, n: u32) -> u32 {
@@ -101,12 +101,19 @@ fn expect_crossed(
     Ok(())
 }
 
+// The same for a row.
+fn expect_row(rt: &impl Abort, alloc: Global, row: &str) -> Result<(), Fail> {
+    let (seed, apart) = row.split_once(' ').unwrap_or((row, ""));
+    let (seed, apart) = (seed.parse()?, apart.parse()?);
+    let mut maps = grid(alloc, apart)?;
+    let crossed = all_crossed(alloc, &mut maps, seed)?;
+    expect_crossed(rt, alloc, &crossed, seed, apart)
+}
+
 #[test]
 fn lines_meet_as_each_two_of_them_do(rt: HostRuntime) -> Result<(), Fail> {
-    for (seed, apart) in DRAWINGS {
-        let mut maps = grid(rt.alloc(), apart)?;
-        let crossed = all_crossed(rt.alloc(), &mut maps, seed)?;
-        expect_crossed(&rt, rt.alloc(), &crossed, seed, apart)?;
+    for row in DRAWINGS.split(';') {
+        expect_row(&rt, rt.alloc(), row)?;
     }
     Ok(())
 }

@@ -1,6 +1,7 @@
 //! Records encoded to bytes and decoded again, one by one and in lists, and the sides of a line.
 
 use crate::expect::{holds, same};
+use crate::rows::{expect_rows, said};
 use lump_records::{
     Bounds, Line, LumpError, Name8, Node, Point, Ray, Sector, Seg, Side, Sub, Thing, Vertex,
     decode_lines, decode_nodes, decode_sectors, decode_segs, decode_sides, decode_subs,
@@ -8,6 +9,7 @@ use lump_records::{
     encode_segs, encode_sides, encode_subs, encode_things, encode_vertices, line_bytes, line_of,
     product, sector_bytes, sector_of, thing_bytes, thing_of, vertex_bytes, vertex_of,
 };
+use std::alloc::Global;
 use std::fmt::Debug;
 use std::process::Abort;
 use std::test::Fail;
@@ -15,20 +17,16 @@ use std::test::Fail;
 const NO_SIDE: u16 = 0xffff;
 
 // The segs of a room of 128 by 128 map units, the west side first.
-const ROOM_SEGS: [u8; 48] = [
-    0x00, 0x00, 0x01, 0x00, 0x00, 0x40, 0x00, 0x00, 0x00, 0x00, 0x00, 0x00, //
-    0x01, 0x00, 0x02, 0x00, 0x00, 0x00, 0x01, 0x00, 0x00, 0x00, 0x00, 0x00, //
-    0x02, 0x00, 0x03, 0x00, 0x00, 0xc0, 0x02, 0x00, 0x00, 0x00, 0x00, 0x00, //
-    0x03, 0x00, 0x00, 0x00, 0x00, 0x80, 0x03, 0x00, 0x00, 0x00, 0x00, 0x00,
-];
+const ROOM_SEGS: [u8; 48] = *b"\
+    \0\0\x01\0\0\x40\0\0\0\0\0\0\
+    \x01\0\x02\0\0\0\x01\0\0\0\0\0\
+    \x02\0\x03\0\0\xc0\x02\0\0\0\0\0\
+    \x03\0\0\0\0\x80\x03\0\0\0\0\0";
 
 // The one node of an L-shaped room.
-const L_NODES: [u8; 28] = [
-    0x80, 0x00, 0x00, 0x01, 0x00, 0x00, 0x80, 0xff, //
-    0x00, 0x01, 0x00, 0x00, 0x00, 0x00, 0x80, 0x00, //
-    0x80, 0x00, 0x00, 0x00, 0x80, 0x00, 0x00, 0x01, //
-    0x00, 0x80, 0x01, 0x80,
-];
+const L_NODES: [u8; 28] = *b"\
+    \x80\0\0\x01\0\0\x80\xff\0\x01\0\0\0\0\
+    \x80\0\x80\0\0\0\x80\0\0\x01\0\x80\x01\x80";
 
 // A seg on side 0 that begins at its line's first end.
 fn seg(first: u16, second: u16, angle: u16, line: u16) -> Seg {
@@ -65,20 +63,24 @@ fn l_node() -> Node {
     }
 }
 
-// Vertices and their bytes.
-#[rattlefmt::skip]
-const VERTICES: &[(Vertex, [u8; 4])] = &[
-    (Vertex { x: 0, y: 0 }, [0x00, 0x00, 0x00, 0x00]),
-    (Vertex { x: 128, y: 0 }, [0x80, 0x00, 0x00, 0x00]),
-    (Vertex { x: -16384, y: 16383 }, [0x00, 0xc0, 0xff, 0x3f]),
-];
+// Vertices, their bytes, and whether these are decoded to the vertex.
+const VERTICES: &str = "0 0|([0, 0, 0, 0], true)\n128 0|([128, 0, 0, 0], true)\n\
+    -16384 16383|([0, 192, 255, 63], true)";
+
+// The bytes of a vertex.
+fn vertex_told(alloc: Global, row: &str) -> Result<String, Fail> {
+    let (x, y) = row.split_once(' ').unwrap_or((row, ""));
+    let vertex = Vertex {
+        x: x.parse()?,
+        y: y.parse()?,
+    };
+    let bytes = vertex_bytes(&vertex);
+    said(alloc, &(bytes, vertex_of(&bytes) == vertex))
+}
 
 #[test]
-fn vertices_have_their_bytes(rt: HostRuntime) {
-    for (vertex, bytes) in VERTICES {
-        let found = (vertex_bytes(vertex), vertex_of(bytes));
-        same(&rt, &found, &(*bytes, *vertex));
-    }
+fn vertices_have_their_bytes(rt: HostRuntime) -> Result<(), Fail> {
+    expect_rows(rt.alloc(), VERTICES, vertex_told)
 }
 
 const THING: Thing = Thing {
@@ -89,7 +91,7 @@ const THING: Thing = Thing {
     options: 7,
 };
 
-const THING_BYTES: [u8; 10] = [0x40, 0x00, 0x40, 0x00, 0x5a, 0x00, 0x01, 0x00, 0x07, 0x00];
+const THING_BYTES: [u8; 10] = *b"\x40\0\x40\0\x5a\0\x01\0\x07\0";
 
 #[test]
 fn things_have_their_bytes(rt: HostRuntime) {
@@ -97,10 +99,7 @@ fn things_have_their_bytes(rt: HostRuntime) {
     assert_eq!(rt; found, (THING_BYTES, THING));
 }
 
-const SECTOR_BYTES: [u8; 26] = [
-    0x00, 0x00, 0x80, 0x00, 0x46, 0x4c, 0x4f, 0x4f, 0x52, 0x34, 0x5f, 0x38, 0x43, 0x45, 0x49, 0x4c,
-    0x33, 0x5f, 0x35, 0x00, 0xa0, 0x00, 0x00, 0x00, 0x00, 0x00,
-];
+const SECTOR_BYTES: [u8; 26] = *b"\0\0\x80\0FLOOR4_8CEIL3_5\0\xa0\0\0\0\0\0";
 
 #[test]
 fn sectors_have_their_bytes(rt: HostRuntime) {
@@ -128,9 +127,7 @@ const LINE: Line = Line {
     left: NO_SIDE,
 };
 
-const LINE_BYTES: [u8; 14] = [
-    0x00, 0x00, 0x01, 0x00, 0x01, 0x00, 0x00, 0x00, 0x00, 0x00, 0x00, 0x00, 0xff, 0xff,
-];
+const LINE_BYTES: [u8; 14] = *b"\0\0\x01\0\x01\0\0\0\0\0\0\0\xff\xff";
 
 #[test]
 fn lines_have_their_bytes(rt: HostRuntime) {
@@ -265,23 +262,28 @@ fn part_of_a_record_is_refused(rt: HostRuntime) {
 }
 
 // Points; whether each lies on the right and on the left of a room's west side; and the side value, which says how far.
-#[rattlefmt::skip]
-const PLACES: &[(Point, bool, bool, i64)] = &[
-    (Point { x: 64, y: 64 }, true, false, 8192),
-    (Point { x: -1, y: 64 }, false, true, -128),
-    (Point { x: 0, y: -999 }, false, false, 0),
-    (Point { x: 40_000, y: 40_000 }, true, false, 5_120_000),
-];
+const PLACES: &str =
+    "64 64|(true, false, 8192)\n-1 64|(false, true, -128)\n0 -999|(false, false, 0)\n\
+    40000 40000|(true, false, 5120000)";
+
+// How a point lies to the west side.
+fn place_told(alloc: Global, row: &str) -> Result<String, Fail> {
+    let west = Ray::between(Vertex { x: 0, y: 0 }, Vertex { x: 0, y: 128 });
+    let (x, y) = row.split_once(' ').unwrap_or((row, ""));
+    let point = Point {
+        x: x.parse()?,
+        y: y.parse()?,
+    };
+    let found = (west.has_on_right(point), west.has_on_left(point));
+    said(alloc, &(found.0, found.1, west.side_value(point)))
+}
 
 #[test]
-fn the_right_is_the_inside_of_a_room(rt: HostRuntime) {
+fn the_right_is_the_inside_of_a_room(rt: HostRuntime) -> Result<(), Fail> {
+    expect_rows(rt.alloc(), PLACES, place_told)?;
     let west = Ray::between(Vertex { x: 0, y: 0 }, Vertex { x: 0, y: 128 });
-    for &(point, right, left, value) in PLACES {
-        let found = (west.has_on_right(point), west.has_on_left(point));
-        let side = west.side_value(point);
-        same(&rt, &(point, found, side), &(point, (right, left), value));
-    }
     holds(&rt, west.has_on_right(Point::from(Vertex { x: 128, y: 0 })));
     same(&rt, &difference(i32::MIN, i32::MAX), &4_294_967_295);
     same(&rt, &product(-3, 4), &(-12));
+    Ok(())
 }

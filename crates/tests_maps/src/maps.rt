@@ -1,6 +1,7 @@
 //! The maps of a project, and the bytes of their body.
 
 use crate::expect::same;
+use crate::rows::{expect_rows, said};
 use lump_records::Name8;
 use map_tables::{MapError, Maps};
 use std::alloc::{AllocError, Global};
@@ -64,8 +65,9 @@ fn a_project_has_thirty_two_maps(rt: HostRuntime) -> Result<(), Fail> {
 }
 
 // An offset in the body of two empty maps, and the byte that is put there: the current map's number; either name made
-// equal to the other; a count of vertices; a count of sectors.
-const CHANGES: &[(usize, u8)] = &[(1, 2), (6, b'2'), (24, b'1'), (16, 1), (18, 1)];
+// equal to the other; a count of vertices; a count of sectors. Then whether the body is refused without it and with it.
+const CHANGES: &str =
+    "1 2|[false, true]\n6 50|[false, true]\n24 49|[false, true]\n16 1|[false, true]\n18 1|[false, true]";
 
 // Whether the body of two empty maps is refused, and whether it is refused with one byte changed.
 fn are_refused(alloc: Global, place: usize, byte: u8) -> Result<[bool; 2], AllocError> {
@@ -77,13 +79,15 @@ fn are_refused(alloc: Global, place: usize, byte: u8) -> Result<[bool; 2], Alloc
     Ok([before, is_refused(alloc, &body)])
 }
 
+// The same of a row.
+fn refusals_of(alloc: Global, row: &str) -> Result<String, Fail> {
+    let (place, byte) = row.split_once(' ').unwrap_or((row, ""));
+    said(alloc, &are_refused(alloc, place.parse()?, byte.parse()?)?)
+}
+
 #[test]
 fn a_changed_byte_is_refused(rt: HostRuntime) -> Result<(), Fail> {
-    for &(place, byte) in CHANGES {
-        let found = are_refused(rt.alloc(), place, byte)?;
-        same(&rt, &(place, byte, found), &(place, byte, [false, true]));
-    }
-    Ok(())
+    expect_rows(rt.alloc(), CHANGES, refusals_of)
 }
 
 // No bytes; version 2 alone, and without a map; `01 01` alone, and before a map; version 1 with an extra byte at the

@@ -143,31 +143,42 @@ fn names_have_their_bytes(rt: HostRuntime) -> Result<(), Fail> {
     expect_rows(rt.alloc(), NAMES, name_and_marker)
 }
 
-const REFUSALS: &[(MapError, u16)] = &[
-    (MapError::NoVertex, 3),
-    (MapError::NoSector, 4),
-    (MapError::NoSide, 5),
-    (MapError::NoLine, 6),
-    (MapError::NoThing, 7),
-    (MapError::InUse, 8),
-    (MapError::SameEnds, 9),
-    (MapError::PlaceTaken, 10),
-    (MapError::TwoSidedWithoutLeft, 11),
-    (MapError::TableFull, 12),
-    (MapError::LineTooLong, 13),
-    (MapError::TooManyMaps, 16),
-    (MapError::MapNameTaken, 17),
-    (MapError::NoSuchMap, 18),
-    (MapError::CurrentMap, 19),
-    (MapError::OutOfMemory, 31),
-    (MapError::Damaged(0), 40),
-];
+// Each refusal.
+fn refusals() -> [MapError; 17] {
+    [
+        MapError::NoVertex,
+        MapError::NoSector,
+        MapError::NoSide,
+        MapError::NoLine,
+        MapError::NoThing,
+        MapError::InUse,
+        MapError::SameEnds,
+        MapError::PlaceTaken,
+        MapError::TwoSidedWithoutLeft,
+        MapError::TableFull,
+        MapError::LineTooLong,
+        MapError::TooManyMaps,
+        MapError::MapNameTaken,
+        MapError::NoSuchMap,
+        MapError::CurrentMap,
+        MapError::OutOfMemory,
+        MapError::Damaged(0),
+    ]
+}
+
+// The number of each.
+const NUMBERS: &str = "\
+    NoVertex 3;NoSector 4;NoSide 5;NoLine 6;NoThing 7;InUse 8;SameEnds 9;PlaceTaken 10;\
+    TwoSidedWithoutLeft 11;TableFull 12;LineTooLong 13;TooManyMaps 16;MapNameTaken 17;NoSuchMap 18;\
+    CurrentMap 19;OutOfMemory 31;Damaged(0) 40;";
 
 #[test]
-fn refusals_have_their_numbers(rt: HostRuntime) {
-    for &(refusal, code) in REFUSALS {
-        same(&rt, &(refusal, refusal.code()), &(refusal, code));
+fn refusals_have_their_numbers(rt: HostRuntime) -> Result<(), Fail> {
+    let mut found = String::new(rt.alloc());
+    for refusal in refusals() {
+        write!(found, "{refusal:?} {};", refusal.code())?;
     }
+    expect_text("refusals", found.as_str(), NUMBERS)
 }
 
 #[test]
