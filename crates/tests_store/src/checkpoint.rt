@@ -4,10 +4,11 @@ ghost use Rattle.std.specs.Prelude.{◌≡◌, ◌≤◌, ◌<◌, ◌+◌, ◌^
 ghost use Rattle.store_disk.specs.Stops.{Each};
 ghost use Rattle.store_slots.specs.Handles.{body_in, generation_in, generation_of, other_of, second_of, HasSomeSlots};
 
+use crate::disk::fill_of;
 use crate::disks::{
     Failing, bytes_from, cut, expect_bytes, failing, length as length_of, stopped, write,
 };
-use crate::expect::{bytes_of, number, part, same, small};
+use crate::expect::{number, part, same, small, told};
 use crate::small::empty_disk;
 use std::alloc::Global;
 use std::process::Abort;
@@ -246,15 +247,22 @@ fn changed(
 
 // How many changes come before one, the first device call that it doesn't make, and the slot and generation that are
 // live after it.
-const CALLS: &[(u32, u64, (u8, u64))] = &[(0, 6, (1, 2)), (1, 8, (0, 3)), (2, 8, (1, 4))];
+const CALLS: &str = "0 6 Some((1, 2));1 8 Some((0, 3));2 8 Some((1, 4))";
+
+// The change of a row makes its calls, and no more.
+fn expect_calls(rt: &impl Abort, alloc: Global, row: &str) -> Result<(), Fail> {
+    let mut want = row;
+    let (turns, k) = (small(rt, &mut want), number(rt, &mut want));
+    let disk = disk_after(alloc, turns, NEW)?;
+    let (mut disk, next) = changed(alloc, disk, turns, (k, 0))?;
+    same(rt, &(row, length_of(&mut disk)), &(row, Err(DeviceFault)));
+    told(rt, alloc, row, &next, want)
+}
 
 #[test]
 fn changes_by_five_calls_and_by_seven(rt: HostRuntime) -> Result<(), Fail> {
-    for &(turns, k, want) in CALLS {
-        let disk = disk_after(rt.alloc(), turns, NEW)?;
-        let (mut disk, next) = changed(rt.alloc(), disk, turns, (k, 0))?;
-        let found = (turns, next, length_of(&mut disk));
-        same(&rt, &found, &(turns, Some(want), Err(DeviceFault)));
+    for row in CALLS.split(';') {
+        expect_calls(&rt, rt.alloc(), row)?;
     }
     Ok(())
 }
@@ -300,14 +308,7 @@ fn writes_the_content_and_then_its_gate(rt: HostRuntime) -> Result<(), Fail> {
 }
 
 // What a stop may leave in place of bytes that weren't synced.
-const FILLS: &[Fill] = &[
-    Fill::Stable,
-    Fill::Written,
-    Fill::Byte(0),
-    Fill::Byte(165),
-    Fill::Upto(1),
-    Fill::Upto(20),
-];
+const FILLS: &str = "stable;written;byte 0;byte 165;upto 1;upto 20";
 
 // Either the old body is live, or the new one with the next generation; if the change was done, the new one. The next
 // change starts from there.
@@ -356,7 +357,9 @@ fn expect_stops(
     turns: u32,
     done: bool,
 ) -> Result<(), Fail> {
-    for &fill in FILLS {
+    for row in FILLS.split(';') {
+        let mut left = row;
+        let fill = fill_of(rt, &mut left);
         expect_stop(rt, alloc, disk.inner(), (fill, false), turns, done)?;
         expect_stop(rt, alloc, disk.inner(), (fill, true), turns, done)?;
     }

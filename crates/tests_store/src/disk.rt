@@ -40,8 +40,8 @@ fn leaves(
     Ok(again && leaves_once(alloc, disk, fill, is_longest, want)?)
 }
 
-// The next fill of a row.
-fn fill_of(rt: &impl Abort, left: &mut &str) -> Fill {
+/// The next fill of a row.
+pub fn fill_of(rt: &impl Abort, left: &mut &str) -> Fill {
     match part(left, ' ') {
         "stable" => Fill::Stable,
         "written" => Fill::Written,

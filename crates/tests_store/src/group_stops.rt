@@ -163,10 +163,11 @@ fn stops_at_every_call_of_a_group(rt: HostRuntime) -> Result<(), Fail> {
     Ok(())
 }
 
-// A group of these payloads.
-fn group_with(alloc: Global, payloads: &[&[u8]]) -> Result<Group, Fail> {
+// A group of these payloads, which `;` divides.
+fn group_with(alloc: Global, payloads: &str) -> Result<Group, Fail> {
     let mut group = Group::new(alloc)?;
-    for payload in payloads {
+    for payload in payloads.split(';') {
+        let payload = payload.as_bytes();
         if payload.len() <= 256 {
             group.push(payload)?;
         }
@@ -192,7 +193,7 @@ fn expect_twice(
     rt: &impl Abort,
     alloc: Global,
     disk: &mut MemoryDisk,
-    payloads: &[&[u8]],
+    payloads: &str,
     wanted: &[Result<(), JournalError>; 2],
 ) -> Result<(), Fail> {
     let group = group_with(alloc, payloads)?;
@@ -206,26 +207,29 @@ fn expect_twice(
 #[test]
 fn appends_a_group_as_a_whole(rt: HostRuntime) -> Result<(), Fail> {
     let mut disk = empty_disk(rt.alloc())?;
-    expect_twice(
-        &rt,
-        rt.alloc(),
-        &mut disk,
-        &[b"a", b"", b"bc"],
-        &[Ok(()), Ok(())],
-    )?;
+    expect_twice(&rt, rt.alloc(), &mut disk, "a;;bc", &[Ok(()), Ok(())])?;
     let bytes =
         b"\xa5\x01\0\0\0a\xa5\0\0\0\0\xa5\x02\0\0\0bc\xa5\x01\0\0\0a\xa5\0\0\0\0\xa5\x02\0\0\0bc\0";
     expect_bytes(&rt, rt.alloc(), &mut disk, 144, bytes)
 }
 
 // Twice this payload and its record's six other bytes are more than the 512 of the area.
-const HALF: &[u8; 251] = &[b'x'; 251];
+const HALF: &str = "\
+    xxxxxxxxxxxxxxxxxxxxxxxxxxxxxxxxxxxxxxxxxxxxxxxxxxxxxxxxxxxxxxxxxxxxxxxxxxxxxxxxxxxxxxxxxxxxxxxxxxxx\
+    xxxxxxxxxxxxxxxxxxxxxxxxxxxxxxxxxxxxxxxxxxxxxxxxxxxxxxxxxxxxxxxxxxxxxxxxxxxxxxxxxxxxxxxxxxxxxxxxxxxx\
+    xxxxxxxxxxxxxxxxxxxxxxxxxxxxxxxxxxxxxxxxxxxxxxxxxxx";
+
+// Whether the disk's journal has this payload alone.
+fn holds_half(alloc: Global, disk: &mut MemoryDisk) -> Result<bool, Fail> {
+    let payloads = format!(in alloc; "{HALF};")?;
+    Ok(is_opened_with(alloc, disk, payloads.as_str())?)
+}
 
 #[test]
 fn refuses_a_group_that_does_not_fit(rt: HostRuntime) -> Result<(), Fail> {
     let mut disk = empty_disk(rt.alloc())?;
     let wanted = [Ok(()), Err(JournalError::JournalFull)];
-    expect_twice(&rt, rt.alloc(), &mut disk, &[HALF], &wanted)?;
-    same(&rt, &is_opened_with(rt.alloc(), &mut disk, &[HALF])?, &true);
+    expect_twice(&rt, rt.alloc(), &mut disk, HALF, &wanted)?;
+    same(&rt, &holds_half(rt.alloc(), &mut disk)?, &true);
     Ok(())
 }

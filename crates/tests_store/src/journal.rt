@@ -2,7 +2,7 @@
 ghost use Rattle.std.specs.Prelude.{◌≤◌, length};
 
 use crate::disks::{Failing, bytes_from, failing, length as length_of, stopped, write};
-use crate::expect::same;
+use crate::expect::{bytes_of, number, part, same, small, told};
 use crate::ready::{AREA, blanked, opened, refreshed, reread};
 use crate::small::empty_disk;
 use std::alloc::Global;
@@ -20,21 +20,24 @@ fn disk_with(alloc: Global, bytes: &[u8]) -> Result<MemoryDisk, Fail> {
     Ok(disk)
 }
 
-// Whether the journal was opened with these payloads.
-fn holds(journal: &Journal, payloads: &[&[u8]]) -> bool {
-    journal.count() == payloads.len()
-        && payloads
-            .iter()
-            .enumerate()
-            .all(|(n, payload)| journal.payload(n) == Some(*payload))
-        && journal.payload(payloads.len()) == None
+// Whether the journal was opened with these payloads, each of which ends with `;`.
+fn holds(journal: &Journal, payloads: &str) -> bool {
+    let mut left = payloads;
+    for n in 0..journal.count() {
+        let (payload, rest) = left.split_once(';').unwrap_or(("none", ""));
+        if journal.payload(n) != Some(payload.as_bytes()) {
+            return false;
+        }
+        left = rest;
+    }
+    left.is_empty() && journal.payload(journal.count()) == None
 }
 
 /// Whether the disk's journal is opened with these payloads.
 pub fn is_opened_with<D: Disk>(
     alloc: Global,
     disk: &mut D,
-    payloads: &[&[u8]],
+    payloads: &str,
 ) -> Result<bool, JournalError> {
     let journal = opened(alloc, disk)?;
     Ok(holds(&journal, payloads))
@@ -63,19 +66,19 @@ pub fn expect_bytes<D: Disk>(
 }
 
 // The room of a journal, and the offsets of its first two records.
-fn told(journal: &Journal) -> (Option<u32>, [Option<u64>; 2]) {
+fn room_and_places(journal: &Journal) -> (Option<u32>, [Option<u64>; 2]) {
     (journal.room(), [journal.place(0), journal.place(1)])
 }
 
 // The first record in a blank area.
 fn expect_first_line(rt: &impl Abort, disk: &mut MemoryDisk) -> Result<(), Fail> {
     let mut journal = blanked(disk)?;
-    same(rt, &told(&journal), &(Some(506), [None, None]));
+    same(rt, &room_and_places(&journal), &(Some(506), [None, None]));
     journal.append(disk, b"vertex 0 0")?;
     // A journal keeps the payloads that it was opened with, and not those that are appended.
     same(
         rt,
-        &(journal.room(), holds(&journal, &[])),
+        &(journal.room(), holds(&journal, "")),
         &(Some(491), true),
     );
     Ok(())
@@ -84,8 +87,12 @@ fn expect_first_line(rt: &impl Abort, disk: &mut MemoryDisk) -> Result<(), Fail>
 // The same journal, opened again.
 fn expect_line(rt: &impl Abort, alloc: Global, disk: &mut MemoryDisk) -> Result<(), Fail> {
     let again = opened(alloc, disk)?;
-    same(rt, &holds(&again, &[b"vertex 0 0"]), &true);
-    same(rt, &told(&again), &(Some(491), [Some(144), None]));
+    same(rt, &holds(&again, "vertex 0 0;"), &true);
+    same(
+        rt,
+        &room_and_places(&again),
+        &(Some(491), [Some(144), None]),
+    );
     Ok(())
 }
 
@@ -101,28 +108,29 @@ fn appends_behind_a_closed_gate(rt: HostRuntime) -> Result<(), Fail> {
     expect_lines(&rt, rt.alloc(), &mut empty_disk(rt.alloc())?)
 }
 
-// Bytes of the area, and the payloads that they stand for.
-#[rattlefmt::skip]
-const OPENED: &[(&[u8], &[&[u8]])] = &[
-    (b"\0", &[]),
-    (b"\0\x0a\0\0\0vertex 0 0\0", &[]),
-    (b"\x01\xff\xff\xff\xff\xa5\xa5", &[]),
-    (b"\xa5\x0a\0\0\0vertex 0 0\0", &[b"vertex 0 0"]),
-    (b"\xa5\x0a\0\0\0vertex 0 0\x07\xa5", &[b"vertex 0 0"]),
-    (b"\xa5\0\0\0\0\xa5\x01\0\0\0b\xa4", &[b"", b"b"]),
-];
+// Bytes of the area, and the payloads that they stand for, each of which ends with `;`.
+const OPENED: &str = "\
+    \0|^\
+    \0\n\0\0\0vertex 0 0\0|^\
+    \x01\u{ff}\u{ff}\u{ff}\u{ff}\u{a5}\u{a5}|^\
+    \u{a5}\n\0\0\0vertex 0 0\0|vertex 0 0;^\
+    \u{a5}\n\0\0\0vertex 0 0\x07\u{a5}|vertex 0 0;^\
+    \u{a5}\0\0\0\0\u{a5}\x01\0\0\0b\u{a4}|;b;";
 
-// Whether these bytes stand for these payloads.
-fn stands_for(alloc: Global, bytes: &[u8], payloads: &[&[u8]]) -> Result<bool, Fail> {
-    let mut disk = disk_with(alloc, bytes)?;
-    Ok(is_opened_with(alloc, &mut disk, payloads)?)
+// The bytes of a row stand for its payloads.
+fn expect_opened(rt: &impl Abort, alloc: Global, row: &str) -> Result<(), Fail> {
+    let mut payloads = row;
+    let bytes = bytes_of(alloc, part(&mut payloads, '|'))?;
+    let mut disk = disk_with(alloc, &bytes)?;
+    let found = is_opened_with(alloc, &mut disk, payloads)?;
+    same(rt, &(row, found), &(row, true));
+    Ok(())
 }
 
 #[test]
 fn opens_what_the_area_stands_for(rt: HostRuntime) -> Result<(), Fail> {
-    for &(bytes, payloads) in OPENED {
-        let found = stands_for(rt.alloc(), bytes, payloads)?;
-        same(&rt, &(bytes, found), &(bytes, true));
+    for row in OPENED.split('^') {
+        expect_opened(&rt, rt.alloc(), row)?;
     }
     Ok(())
 }
@@ -147,7 +155,7 @@ fn append_reread<D: Disk>(
 // Appends to an area that is read one by one, and opens it.
 fn expect_reread<D: Disk>(rt: &impl Abort, alloc: Global, disk: &mut D) -> Result<(), Fail> {
     let kept = append_reread(disk, &[b"", b"b"], b"cd")?;
-    let is_longer = is_opened_with(alloc, disk, &[b"", b"b", b"cd"])?;
+    let is_longer = is_opened_with(alloc, disk, ";b;cd;")?;
     same(rt, &(kept, is_longer), &(Some(0), true));
     Ok(())
 }
@@ -158,35 +166,36 @@ fn reads_one_by_one(rt: HostRuntime) -> Result<(), Fail> {
     expect_reread(&rt, rt.alloc(), &mut disk)
 }
 
-// Bytes of the area, and the offset where opening finds the damage.
-#[rattlefmt::skip]
-const DAMAGED: &[(&[u8], u64)] = &[
-    // no gate, an open gate alone, and records that are cut off
-    (b"", 144),
-    (b"\xa5", 144),
-    (b"\xa5\x0a\0\0", 144),
-    (b"\xa5\0\0\0\0", 144),
-    (b"\xa5\x0a\0\0\0vertex 0 0", 144),
-    // lengths of 255 in a short file, of 257, and of more
-    (b"\xa5\xff\0\0\0vertex 0 0\0", 144),
-    (b"\xa5\x01\x01\0\0vertex 0 0\0", 144),
-    (b"\xa5\x0a\0\0\x80vertex 0 0\0", 144),
-    // a second record that is cut off
-    (b"\xa5\x01\0\0\0a\xa5\x01\0\0\0b", 150),
-];
+// Bytes of the area, and the offset where opening finds the damage. In turn: no gate, an open gate alone, and records
+// that are cut off; lengths of 255 in a short file, of 257, and of more; a second record that is cut off.
+const DAMAGED: &str = "\
+    |Some(Damaged { place: 144 })^\
+    \u{a5}|Some(Damaged { place: 144 })^\
+    \u{a5}\n\0\0|Some(Damaged { place: 144 })^\
+    \u{a5}\0\0\0\0|Some(Damaged { place: 144 })^\
+    \u{a5}\n\0\0\0vertex 0 0|Some(Damaged { place: 144 })^\
+    \u{a5}\u{ff}\0\0\0vertex 0 0\0|Some(Damaged { place: 144 })^\
+    \u{a5}\x01\x01\0\0vertex 0 0\0|Some(Damaged { place: 144 })^\
+    \u{a5}\n\0\0\u{80}vertex 0 0\0|Some(Damaged { place: 144 })^\
+    \u{a5}\x01\0\0\0a\u{a5}\x01\0\0\0b|Some(Damaged { place: 150 })";
 
 // How opening a disk's journal is refused.
 fn refusal_of<D: Disk>(alloc: Global, disk: &mut D) -> Option<JournalError> {
     opened(alloc, disk).err()
 }
 
+// Opening the bytes of a row is refused as it says.
+fn expect_damaged(rt: &impl Abort, alloc: Global, row: &str) -> Result<(), Fail> {
+    let mut wanted = row;
+    let bytes = bytes_of(alloc, part(&mut wanted, '|'))?;
+    let mut disk = disk_with(alloc, &bytes)?;
+    told(rt, alloc, row, &refusal_of(alloc, &mut disk), wanted)
+}
+
 #[test]
 fn finds_damage_at_its_gate(rt: HostRuntime) -> Result<(), Fail> {
-    for &(bytes, place) in DAMAGED {
-        let mut disk = disk_with(rt.alloc(), bytes)?;
-        let found = refusal_of(rt.alloc(), &mut disk);
-        let damaged = Some(JournalError::Damaged { place });
-        same(&rt, &(bytes, found), &(bytes, damaged));
+    for row in DAMAGED.split('^') {
+        expect_damaged(&rt, rt.alloc(), row)?;
     }
     Ok(())
 }
@@ -231,40 +240,45 @@ fn append_first<D: Disk>(disk: &mut D) -> Result<Result<(), JournalError>, Journ
 }
 
 // The call of an append that fails, how many bytes it still writes, and the bytes that the area then has.
-#[rattlefmt::skip]
-const WRITES: &[(u64, u32, &[u8])] = &[
-    (1, 0, b"\0"),
-    (1, 3, b"\0\x0a\0\0"),
-    (1, 15, b"\0\x0a\0\0\0vertex 0 0\0"),
-    (2, 0, b"\0\x0a\0\0\0vertex 0 0\0"),
-    (3, 0, b"\0\x0a\0\0\0vertex 0 0\0"),
-    (3, 1, b"\xa5\x0a\0\0\0vertex 0 0\0"),
-    (4, 0, b"\xa5\x0a\0\0\0vertex 0 0\0"),
-];
+const WRITES: &str = "\
+    1 0 \0^\
+    1 3 \0\n\0\0^\
+    1 15 \0\n\0\0\0vertex 0 0\0^\
+    2 0 \0\n\0\0\0vertex 0 0\0^\
+    3 0 \0\n\0\0\0vertex 0 0\0^\
+    3 1 \u{a5}\n\0\0\0vertex 0 0\0^\
+    4 0 \u{a5}\n\0\0\0vertex 0 0\0";
 
-// After an append in which this call fails, the area has these bytes.
-fn expect_write(
+// After an append in which a call fails, the area has these bytes.
+fn expect_written(
     rt: &impl Abort,
     alloc: Global,
     disk: &mut Failing,
-    call: (u64, u32),
+    row: &str,
     want: &[u8],
 ) -> Result<(), Fail> {
     let appended = append_first(disk)?;
     let bytes = bytes_from(alloc, disk, 144, usize::MAX)?;
     same(
         rt,
-        &(call, appended, bytes.as_slice()),
-        &(call, Err(JournalError::Device), want),
+        &(row, appended, bytes.as_slice()),
+        &(row, Err(JournalError::Device), want),
     );
     Ok(())
 }
 
+// The same as a row says.
+fn expect_write(rt: &impl Abort, alloc: Global, row: &str) -> Result<(), Fail> {
+    let mut want = row;
+    let (k, kept) = (number(rt, &mut want), small(rt, &mut want));
+    let mut disk = failing(alloc, k.saturating_add(2), kept)?;
+    expect_written(rt, alloc, &mut disk, row, &bytes_of(alloc, want)?)
+}
+
 #[test]
 fn writes_the_record_and_then_its_gate(rt: HostRuntime) -> Result<(), Fail> {
-    for &(k, part, want) in WRITES {
-        let mut disk = failing(rt.alloc(), k.saturating_add(2), part)?;
-        expect_write(&rt, rt.alloc(), &mut disk, (k, part), want)?;
+    for row in WRITES.split('^') {
+        expect_write(&rt, rt.alloc(), row)?;
     }
     Ok(())
 }
@@ -289,7 +303,7 @@ fn failing_with_record(alloc: Global, k: u64) -> Result<Failing, Fail> {
 
 // The call behind an opening fails.
 fn expect_read(rt: &impl Abort, alloc: Global, disk: &mut Failing) -> Result<(), Fail> {
-    let is_a = is_opened_with(alloc, disk, &[b"a"])?;
+    let is_a = is_opened_with(alloc, disk, "a;")?;
     same(rt, &(is_a, length_of(disk).is_err()), &(true, true));
     Ok(())
 }
@@ -319,7 +333,7 @@ fn answers_a_device_that_fails(rt: HostRuntime) -> Result<(), Fail> {
     for k in 1..6 {
         let mut disk = failing_with_record(rt.alloc(), k)?;
         let refused = refusal_of(rt.alloc(), &mut disk);
-        let is_a = is_opened_with(rt.alloc(), &mut disk, &[b"a"])?;
+        let is_a = is_opened_with(rt.alloc(), &mut disk, "a;")?;
         let device = Some(JournalError::Device);
         same(&rt, &(k, refused, is_a), &(k, device, true));
     }
@@ -340,7 +354,7 @@ fn expect_refreshed(rt: &impl Abort, alloc: Global, disk: &mut MemoryDisk) -> Re
     same(rt, &journal.room(), &Some(506));
     expect_closed(rt, alloc, disk)?;
     journal.append(disk, b"bc")?;
-    same(rt, &is_opened_with(alloc, disk, &[b"bc"])?, &true);
+    same(rt, &is_opened_with(alloc, disk, "bc;")?, &true);
     Ok(())
 }
 

@@ -12,9 +12,9 @@ use std::test::Fail;
 use store_disk::{Disk, Fill, MemoryDisk};
 use store_journal::{Journal, JournalError};
 
-const ONE: &[&[u8]] = &[b"first"];
+const ONE: &str = "first;";
 
-const BOTH: &[&[u8]] = &[b"first", b"second"];
+const BOTH: &str = "first;second;";
 
 // A stop left both records; or only `first`, if the append of `second` wasn't `done`. Returns whether it left both.
 fn is_both<D: Disk>(
@@ -50,9 +50,9 @@ fn expect_left<D: Disk>(
     Ok(())
 }
 
-const ALL: &[&[u8]] = &[b"first", b"second", b"third"];
+const ALL: &str = "first;second;third;";
 
-const FIRST_AND_THIRD: &[&[u8]] = &[b"first", b"third"];
+const FIRST_AND_THIRD: &str = "first;third;";
 
 // One stop leaves one record or both.
 fn expect_stop(

@@ -22,16 +22,18 @@ pub fn checkpoint<D: Disk>(project: &mut Project<D>) -> Result<u64, ProjectError
 }
 
 /// A disk with a small project in which these lines were accepted.
-pub fn disk_after(alloc: Global, lines: &[&[u8]]) -> Result<MemoryDisk, Fail> {
+pub fn disk_after(alloc: Global, lines: &str) -> Result<MemoryDisk, Fail> {
     let mut project = created(alloc, empty_disk(alloc)?, SMALL)?;
     apply_all(&mut project, lines)?;
     Ok(project.into_disk())
 }
 
-/// Applies lines, which are accepted.
-pub fn apply_all<D: Disk>(project: &mut Project<D>, lines: &[&[u8]]) -> Result<(), ProjectError> {
-    for line in lines {
-        apply(project, *line)?;
+/// Applies lines, which `;` divides and which are accepted.
+pub fn apply_all<D: Disk>(project: &mut Project<D>, lines: &str) -> Result<(), ProjectError> {
+    for line in lines.split(';') {
+        if !line.is_empty() {
+            apply(project, line.as_bytes())?;
+        }
     }
     Ok(())
 }
@@ -80,7 +82,7 @@ fn expect_new_file(
 
 #[test]
 fn writes_a_new_file(rt: HostRuntime) -> Result<(), Fail> {
-    let disk = disk_after(rt.alloc(), &[])?;
+    let disk = disk_after(rt.alloc(), "")?;
     for &fill in FILLS {
         expect_new_file(&rt, rt.alloc(), &disk, fill)?;
     }
@@ -184,7 +186,7 @@ fn expect_recorded(rt: &impl Abort, alloc: Global, disk: &mut MemoryDisk) -> Res
 
 #[test]
 fn records_a_line_before_its_answer(rt: HostRuntime) -> Result<(), Fail> {
-    let mut disk = disk_after(rt.alloc(), &[b"vertex 0 0"])?;
+    let mut disk = disk_after(rt.alloc(), "vertex 0 0")?;
     expect_recorded(&rt, rt.alloc(), &mut disk)
 }
 
@@ -205,12 +207,7 @@ pub fn damaged(
 fn expect_files(rt: &impl Abort, alloc: Global, rows: &str) -> Result<(), Fail> {
     for row in rows.split(';') {
         let mut left = row;
-        let file = damaged(
-            rt,
-            alloc,
-            &mut disk_after(alloc, &[b"vertex 0 0"])?,
-            &mut left,
-        )?;
+        let file = damaged(rt, alloc, &mut disk_after(alloc, "vertex 0 0")?, &mut left)?;
         let found = found(alloc, holding(alloc, 0, &file)?);
         told(rt, alloc, row, &found, left)?;
     }
@@ -270,7 +267,7 @@ fn read_alone(alloc: Global, disk: MemoryDisk) -> Result<(Result<u32, ProjectErr
 
 #[test]
 fn reads_the_maps_alone(rt: HostRuntime) -> Result<(), Fail> {
-    let disk = disk_after(rt.alloc(), &[b"vertex 0 0"])?;
+    let disk = disk_after(rt.alloc(), "vertex 0 0")?;
     same(&rt, &read_alone(rt.alloc(), disk)?, &(Ok(1), 657));
     let found = read_alone(rt.alloc(), holding(rt.alloc(), 0, b"LVPJ")?)?;
     same(&rt, &found, &(Err(ProjectError::NotAProject), 4));

@@ -2,7 +2,7 @@
 ghost use Rattle.store_project.specs.Groups.{IsGroupFor};
 
 use crate::disks::{expect_bytes, length as length_of};
-use crate::expect::same;
+use crate::expect::{number, same, small};
 use crate::project::apply;
 use crate::project_stops::{expect_counts, failing};
 use crate::small::{SMALL, created, empty_disk, found, vertices};
@@ -104,15 +104,8 @@ fn puts_a_group_by_four_calls(rt: HostRuntime) -> Result<(), Fail> {
 
 // The ways in which the four calls can fail: the call, and how many bytes it still writes; and whether the group's
 // first gate is open if all that was written stays.
-const FAULTS: &[(u64, u32, bool)] = &[
-    (9, 0, false),
-    (9, 15, false),
-    (9, 30, false),
-    (10, 0, false),
-    (11, 0, false),
-    (11, 1, true),
-    (12, 0, true),
-];
+const FAULTS: &str =
+    "9 0 closed;9 15 closed;9 30 closed;10 0 closed;11 0 closed;11 1 open;12 0 open";
 
 // The disk of a project, during whose put of the lines the call fails.
 fn disk_after_fault(
@@ -132,12 +125,19 @@ fn disk_after_fault(
     Ok(project.into_disk())
 }
 
+// The put fails as a row says.
+fn expect_fault(rt: &impl Abort, alloc: Global, row: &str) -> Result<(), Fail> {
+    let mut left = row;
+    let (k, kept) = (number(rt, &mut left), small(rt, &mut left));
+    let disk = disk_after_fault(rt, alloc, k, kept)?;
+    let new = if left == "open" { [2, 1] } else { [0, 1] };
+    expect_counts(rt, alloc, disk, [0, 1], new)
+}
+
 #[test]
 fn keeps_all_of_a_group_or_none(rt: HostRuntime) -> Result<(), Fail> {
-    for &(k, part, is_open) in FAULTS {
-        let disk = disk_after_fault(&rt, rt.alloc(), k, part)?;
-        let left = if is_open { [2, 1] } else { [0, 1] };
-        expect_counts(&rt, rt.alloc(), disk, [0, 1], left)?;
+    for row in FAULTS.split(';') {
+        expect_fault(&rt, rt.alloc(), row)?;
     }
     Ok(())
 }

@@ -93,7 +93,7 @@ fn holds_what_fits_a_slot(rt: HostRuntime) -> Result<(), Fail> {
 // A body of version 1 has one map. The next checkpoint writes it as version 2, of the same length.
 #[test]
 fn opens_a_file_of_one_map(rt: HostRuntime) -> Result<(), Fail> {
-    let mut disk = disk_after(rt.alloc(), &[b"vertex 0 0"])?;
+    let mut disk = disk_after(rt.alloc(), "vertex 0 0")?;
     write(&mut disk, 29, b"\x01")?;
     let mut disk = disk_after_checkpoint(&rt, rt.alloc(), disk)?;
     expect_bytes(&rt, rt.alloc(), &mut disk, "a body", 89, "\x18\0\0\0\x02\0")?;
@@ -119,7 +119,7 @@ fn disk_after_checkpoint(
 // A project with the last generation, on a disk whose next call fails.
 fn spent(alloc: Global) -> Result<Project<FaultDisk<MemoryDisk>>, Fail> {
     for k in 1..50 {
-        let mut disk = disk_after(alloc, &[])?;
+        let mut disk = disk_after(alloc, "")?;
         write(&mut disk, 17, &[255; 8])?;
         if let Ok(project) = Project::open(alloc, FaultDisk::new(disk, k, 0)) {
             return Ok(project);

@@ -1,7 +1,7 @@
 //! Calls that fail during the lines and checkpoints of a project, and what the project has when it is opened again.
 
 use crate::disks::{expect_bytes, failing as failing_disk, length as length_of, stopped};
-use crate::expect::{number, same, small};
+use crate::expect::{number, part, same, small};
 use crate::project::{apply, apply_all, checkpoint};
 use crate::small::{FILLS, SMALL, created, found, opened, vertices};
 use std::alloc::Global;
@@ -20,13 +20,7 @@ pub fn failing(alloc: Global, k: u64, part: u32) -> Result<Failing, Fail> {
 
 // The ways in which the four calls of an append can fail: the call, counted from the first one of `create`, and how
 // many bytes it still writes; and whether the record's gate is open if all that was written stays.
-const FAULTS: &[(u64, u32, bool)] = &[
-    (9, 15, false),
-    (10, 0, false),
-    (11, 0, false),
-    (11, 1, true),
-    (12, 0, true),
-];
+const FAULTS: &str = "9 15 closed;10 0 closed;11 0 closed;11 1 open;12 0 open";
 
 // The first line of a project fails, and the project accepts nothing from then on.
 fn expect_closed<D: Disk>(rt: &impl Abort, project: &mut Project<D>) {
@@ -38,11 +32,18 @@ fn expect_closed<D: Disk>(rt: &impl Abort, project: &mut Project<D>) {
     same(rt, &checkpoint(project), &Err(ProjectError::Reopen));
 }
 
+// The same with the fault of a row.
+fn expect_fault(rt: &impl Abort, alloc: Global, row: &str) -> Result<(), Fail> {
+    let mut left = row;
+    let (k, kept) = (number(rt, &mut left), small(rt, &mut left));
+    expect_closed(rt, &mut failing(alloc, k, kept)?);
+    Ok(())
+}
+
 #[test]
 fn wants_to_be_opened_again_after_a_fault(rt: HostRuntime) -> Result<(), Fail> {
-    for &(k, part, _) in FAULTS {
-        let mut project = failing(rt.alloc(), k, part)?;
-        expect_closed(&rt, &mut project);
+    for row in FAULTS.split(';') {
+        expect_fault(&rt, rt.alloc(), row)?;
     }
     Ok(())
 }
@@ -51,11 +52,12 @@ fn wants_to_be_opened_again_after_a_fault(rt: HostRuntime) -> Result<(), Fail> {
 fn fail_in<D: Disk>(
     rt: &impl Abort,
     project: &mut Project<D>,
-    before: &[&[u8]],
-    line: &[u8],
+    before: &str,
+    line: &str,
 ) -> Result<(), Fail> {
     apply_all(project, before)?;
-    same(rt, &apply(project, line), &Err(ProjectError::Device));
+    let failed = apply(project, line.as_bytes());
+    same(rt, &failed, &Err(ProjectError::Device));
     Ok(())
 }
 
@@ -64,8 +66,8 @@ fn failed(
     rt: &impl Abort,
     alloc: Global,
     fault: (u64, u32),
-    before: &[&[u8]],
-    line: &[u8],
+    before: &str,
+    line: &str,
 ) -> Result<FaultDisk<MemoryDisk>, Fail> {
     let mut project = failing(alloc, fault.0, fault.1)?;
     fail_in(rt, &mut project, before, line)?;
@@ -88,19 +90,7 @@ fn counts<D: Disk + Drop>(alloc: Global, disk: D) -> Result<[u32; 2], Fail> {
 
 // The lines before one during which a call fails, how many device calls they make, that line, and how many vertices and
 // maps the project has before it and after it.
-type Line = (
-    &'static [&'static [u8]],
-    u64,
-    &'static [u8],
-    [u32; 2],
-    [u32; 2],
-);
-
-const LINES: &[Line] = &[
-    (&[], 0, b"vertex 0 0", [0, 1], [1, 1]),
-    (&[], 0, b"map MAP02", [0, 1], [0, 2]),
-    (&[b"map MAP02"], 4, b"drop-map MAP01", [0, 2], [0, 1]),
-];
+const LINES: &str = "|0|vertex 0 0|0 1|1 1^|0|map MAP02|0 1|0 2^map MAP02|4|drop-map MAP01|0 2|0 1";
 
 /// Opens the project of a disk after a failed call, after stops and without one: it has the counts `new` if what was
 /// written is kept, and else `old`.
@@ -120,14 +110,33 @@ pub fn expect_counts(
     Ok(())
 }
 
+// Two counts of a row.
+fn pair(rt: &impl Abort, text: &str) -> [u32; 2] {
+    let mut left = text;
+    [small(rt, &mut left), small(rt, &mut left)]
+}
+
+// The line of a row fails by a fault of the other row, and the project has what the first row says.
+fn expect_failed(rt: &impl Abort, alloc: Global, row: &str, fault: &str) -> Result<(), Fail> {
+    let (mut left, mut how) = (row, fault);
+    let before = part(&mut left, '|');
+    let calls = number(rt, &mut part(&mut left, '|'));
+    let line = part(&mut left, '|');
+    let old = pair(rt, part(&mut left, '|'));
+    let new = pair(rt, left);
+    let call = (
+        number(rt, &mut how).saturating_add(calls),
+        small(rt, &mut how),
+    );
+    let disk = failed(rt, alloc, call, before, line)?;
+    expect_counts(rt, alloc, disk, old, if how == "open" { new } else { old })
+}
+
 #[test]
 fn opens_again_after_a_fault(rt: HostRuntime) -> Result<(), Fail> {
-    for &(before, calls, line, old, new) in LINES {
-        for &(k, part, is_open) in FAULTS {
-            let fault = (k.saturating_add(calls), part);
-            let disk = failed(&rt, rt.alloc(), fault, before, line)?;
-            let left = if is_open { new } else { old };
-            expect_counts(&rt, rt.alloc(), disk, old, left)?;
+    for row in LINES.split('^') {
+        for fault in FAULTS.split(';') {
+            expect_failed(&rt, rt.alloc(), row, fault)?;
         }
     }
     Ok(())
@@ -309,14 +318,22 @@ fn failed_again(
 
 // The device call that fails during a checkpoint after a failed one, and the generation of the project when it is
 // opened again.
-const AGAIN: &[(u64, u64)] = &[(12, 1), (13, 1), (14, 1), (15, 2), (16, 2)];
+const AGAIN: &str = "12 1;13 1;14 1;15 2;16 2";
+
+// A stop as a row says.
+fn expect_again(rt: &impl Abort, alloc: Global, row: &str) -> Result<(), Fail> {
+    let mut left = row;
+    let (k, generation) = (number(rt, &mut left), number(rt, &mut left));
+    let disk = failed_again(rt, alloc, k)?;
+    expect_stops(rt, alloc, disk.inner(), 2, (1, generation))?;
+    same(rt, &(k, found(alloc, disk)?), &(k, (2, generation)));
+    Ok(())
+}
 
 #[test]
 fn stops_within_a_checkpoint_after_one_that_failed(rt: HostRuntime) -> Result<(), Fail> {
-    for &(k, generation) in AGAIN {
-        let disk = failed_again(&rt, rt.alloc(), k)?;
-        expect_stops(&rt, rt.alloc(), disk.inner(), 2, (1, generation))?;
-        same(&rt, &(k, found(rt.alloc(), disk)?), &(k, (2, generation)));
+    for row in AGAIN.split(';') {
+        expect_again(&rt, rt.alloc(), row)?;
     }
     Ok(())
 }

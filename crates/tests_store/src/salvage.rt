@@ -12,7 +12,7 @@ use store_project::{Project, ProjectError};
 use store_salvage::{SalvageError, salvage};
 
 // Three records of 15 bytes at 144, 159 and 174, and a closed gate at 189.
-const LINES: &[&[u8]] = &[b"vertex 0 0", b"vertex 1 0", b"vertex 2 0"];
+const LINES: &str = "vertex 0 0;vertex 1 0;vertex 2 0";
 
 // What is salvaged from a file: how many vertices, how many records are kept, where it is damaged, and how many records
 // come after the damage.
