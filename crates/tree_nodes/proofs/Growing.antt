@@ -253,10 +253,6 @@ pub ok_by : {T E : Type 0} (r : Result T E) (P Q : T → Type 0) → ((x : T) �
 ok_by (Ok x) P Q f h = f x h
 ok_by (Err e) P Q f h = tt
 
-pub ok_all : {T E : Type 0} (r : Result T E) (Q : Type 0) → Q → IfOk r (λ _. Q)
-ok_all (Ok x) Q h = h
-ok_all (Err e) Q h = tt
-
 pub err_by : {T E : Type 0} (r : Result T E) (P Q : E → Type 0) → ((e : E) → P e → Q e) → IfErr r P → IfErr r Q
 err_by (Ok x) P Q f h = tt
 err_by (Err e) P Q f h = f e h

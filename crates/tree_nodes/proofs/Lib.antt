@@ -4,6 +4,7 @@ pub mod Filling
 pub mod CornerLemmas
 pub mod Boxing
 pub mod Growing
+pub mod Opening
 pub mod SegLaws
 pub mod Children
 pub mod Below

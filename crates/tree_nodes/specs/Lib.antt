@@ -8,6 +8,7 @@ pub mod Sound
 pub mod Corners
 pub mod Boxed
 pub mod Growth
+pub mod OpenTree
 pub mod Refusals
 pub mod Built
 pub mod Laws

@@ -8,7 +8,8 @@ ghost use Rattle.tree_nodes.specs.Refusals.{AreTreeLists, IsTreeRefused};
 
 use crate::boxed::PlacedPieces;
 use crate::error::TreeError;
-use crate::growth::{Grown, grow};
+use crate::growth::Grown;
+use crate::open_tree::grow;
 use crate::segs::segs_of;
 use crate::subsectors::subs_of;
 use lump_records::{ITEM_LIMIT, Node, Seg, Sub, Vertex};
@@ -65,30 +66,19 @@ fn grown_of(alloc: Global, lines: &Lines) -> Result<Grown, TreeError>
         Err(_) => return Err(TreeError::OutOfMemory),
         Ok(list) => list,
     };
-    let mut used = match no_flags(alloc, lines.len()) {
+    let used = match no_flags(alloc, lines.len()) {
         Err(_) => return Err(TreeError::OutOfMemory),
         Ok(used) => used,
     };
-    let mut straight = match StraightLines::new(alloc, lines) {
+    let straight = match StraightLines::new(alloc, lines) {
         Err(_) => return Err(TreeError::OutOfMemory),
         Ok(straight) => straight,
     };
-    let mut grown = match nothing_grown(alloc, list.pieces.len()) {
+    let grown = match nothing_grown(alloc, list.pieces.len()) {
         Err(_) => return Err(TreeError::OutOfMemory),
         Ok(grown) => grown,
     };
-    match grow(
-        alloc,
-        lines,
-        list,
-        &mut used,
-        &mut straight,
-        DEEPEST,
-        &mut grown,
-    ) {
-        Err(error) => Err(error),
-        Ok(_) => Ok(grown),
-    }
+    grow(alloc, lines, list, used, straight, DEEPEST, grown)
 }
 
 // All vertices, by number.

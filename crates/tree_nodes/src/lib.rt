@@ -7,6 +7,7 @@ mod corners;
 mod error;
 mod growth;
 mod laws;
+mod open_tree;
 mod parting;
 mod segs;
 mod shape;

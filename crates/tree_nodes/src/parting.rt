@@ -2,7 +2,7 @@
 ghost use Rattle.std.specs.Prelude.{◌≡◌, ◌++◌, ◌∷◌, [], ◌&&◌, All, false, is_some, option_to_list, IfOk, IfSome, OnOk};
 ghost use Rattle.tree_pieces.specs.Local.{IsLineRay};
 ghost use Rattle.tree_pieces.specs.Pieces.{IsPiece, ray_of};
-ghost use Rattle.tree_pieces.specs.Division.{right_parts, left_parts};
+ghost use Rattle.tree_pieces.specs.Division.{right_parts, left_parts, parts_of, parts_by};
 ghost use Rattle.tree_pieces.specs.Boxes.{box_of, boxes_of};
 ghost use Rattle.tree_nodes.specs.Boxed.{IsBoxed};
 
@@ -10,7 +10,7 @@ use crate::boxed::BoxedPieces;
 use lump_records::{Bounds, Ray};
 use std::alloc::{AllocError, Global};
 use tree_choice::{Choice, box_side};
-use tree_pieces::{Lines, Parts, Piece, Place, box_on, divide_in};
+use tree_pieces::{Lines, Parts, Piece, Place, box_on, divide_in, place_on};
 
 /// The parts of a list on the two sides of a partition, in the list's order.
 #[derive(Drop)]
@@ -66,7 +66,7 @@ fn put_part(
     }
 }
 
-// Appends the parts of a piece that the partition may cross.
+// Appends the parts of a piece that the partition crosses.
 fn put_divided(
     lines: &Lines,
     partition: &Piece,
@@ -94,7 +94,28 @@ fn put_divided(
     Ok(())
 }
 
-// Appends the parts of a piece. If its box lies on one side, the whole piece goes there.
+// The place of a piece, or the side on which its box lies: either tells the same parts. Only a piece whose box isn't on
+// one side is placed by its exact ends.
+fn place_or_side(lines: &Lines, partition: &Piece, ray: Ray, piece: &Piece, bounds: Bounds) -> Place
+    requires partition { IsPiece lines.now partition.now }
+    requires ray { ray ≡ ray_of lines.now partition.now }
+    requires line { IsLineRay ray }
+    requires piece { IsPiece lines.now piece.now }
+    requires bounds { bounds ≡ box_of lines.now piece.now }
+    ensures { parts_of lines.now partition.now piece.now
+        ≡ parts_by lines.now partition.now piece.now result }
+{
+    match box_side(ray, bounds) {
+        Place::Right => Place::Right,
+        Place::Left => Place::Left,
+        Place::Across => {
+            let edge = lines.line_of(piece);
+            place_on(ray, edge, piece)
+        }
+    }
+}
+
+// Appends the parts of a piece. One that lies on one side goes there whole.
 fn put_parts(
     lines: &Lines,
     partition: &Piece,
@@ -118,7 +139,7 @@ fn put_parts(
     ensures right_boxed { OnOk result (IsBoxed lines.now right.new) }
     ensures left_boxed { OnOk result (IsBoxed lines.now left.new) }
 {
-    match box_side(ray, bounds) {
+    match place_or_side(lines, partition, ray, piece, bounds) {
         Place::Right => put_part(lines, Some(*piece), false, bounds, right),
         Place::Left => put_part(lines, Some(*piece), false, bounds, left),
         Place::Across => put_divided(lines, partition, piece, bounds, right, left),

@@ -1,29 +1,18 @@
-use Rattle.std.proofs.Common.{◌≡◌, ◌++◌, [], sym, subst}
-use Rattle.std.specs.Prelude.{pos, ◌<ℤ◌, OnOk, Some, None}
+use Rattle.std.proofs.Common.{◌≡◌, ◌∙◌, ◌++◌, [], sym, ap, subst}
+use Rattle.std.specs.Prelude.{OnOk, Some, None}
 use Rattle.std.specs.List.{cons_option}
-use Rattle.lump_records.specs.declared.plane.Ray.{Ray}
-use Rattle.lump_records.specs.declared.records.Bounds.{Bounds}
 use Rattle.tree_pieces.specs.declared.piece.Parts.{Parts}
-use Rattle.tree_pieces.specs.Boxes.{least_value, greatest_value, HoldsPiece}
-use Rattle.tree_pieces.specs.Division.{parts_of}
-use Rattle.tree_pieces.proofs.Boxes.{box_right, box_left}
-use Rattle.tree_pieces.proofs.Steps.{box_holds}
+use Rattle.tree_pieces.specs.Division.{parts_of, parts_by}
 use Rattle.tree_nodes.proofs.Boxing.{nothing_more}
 use Rattle.tree_nodes.proofs.parting.put_parts.Goals as goal
 use Rattle.tree_nodes.proofs.parting.put_parts.Goals.{In-Right, In-Left}
 
--- a piece whose box lies on one side goes there whole
+-- a piece on one side goes there whole
 whole_right : (c : In-Right) → parts_of c.args.lines.now c.args.partition.now c.args.piece.now ≡ record { right = Some c.args.piece.now; left = None }
-whole_right c =
-    let h = subst (λ (r : Ray). pos 0 <ℤ least_value r c.args.bounds) c.requires.ray (c.box_side.ensures.right c.in-Right.is) in
-    let holds = subst (λ (b : Bounds). HoldsPiece c.args.lines.now b c.args.piece.now) (sym c.requires.bounds) (box_holds c.args.lines.now c.args.piece.now) in
-    box_right c.args.lines.now c.args.partition.now c.args.piece.now c.args.bounds c.requires.piece holds h
+whole_right c = c.place_or_side.ensures ∙ ap (parts_by c.args.lines.now c.args.partition.now c.args.piece.now) c.in-Right.is
 
 whole_left : (c : In-Left) → parts_of c.args.lines.now c.args.partition.now c.args.piece.now ≡ record { right = None; left = Some c.args.piece.now }
-whole_left c =
-    let h = subst (λ (r : Ray). greatest_value r c.args.bounds <ℤ pos 0) c.requires.ray (c.box_side.ensures.left c.in-Left.is) in
-    let holds = subst (λ (b : Bounds). HoldsPiece c.args.lines.now b c.args.piece.now) (sym c.requires.bounds) (box_holds c.args.lines.now c.args.piece.now) in
-    box_left c.args.lines.now c.args.partition.now c.args.piece.now c.args.bounds c.requires.piece holds h
+whole_left c = c.place_or_side.ensures ∙ ap (parts_by c.args.lines.now c.args.partition.now c.args.piece.now) c.in-Left.is
 
 pub returns-in-Right-clause-right : goal.returns-in-Right-clause-right
 returns-in-Right-clause-right c =
