@@ -1,9 +1,7 @@
 -- What names ask for, one name after another and one level after another.
-use Rattle.std.proofs.Common.{◌≡◌, ◌∙◌, ◌<◌, ◌≤◌, ℕ, zero, suc, List, [], ◌∷◌, Bool, true, false, cond, length, get_or, map, drop, refl, ap, arith, All, Some}
-use Rattle.std.specs.Prelude.{◌&&◌, filter}
+use Rattle.std.proofs.Common.{◌≡◌, ◌∙◌, ◌<◌, ◌≤◌, ℕ, zero, suc, List, [], ◌∷◌, Bool, true, false, length, get_or, map, drop, refl, ap, arith, Some}
+use Rattle.std.specs.Prelude.{◌&&◌}
 use Rattle.std.specs.List.{list_all}
-use Rattle.std.proofs.lemmas.List.Elements.{All-cons, All-head, All-nil, All-tail}
-use Rattle.wad_levels.specs.declared.entries.LevelEntries.{LevelEntries}
 use Rattle.wad_levels.specs.Listing.{listing_refusal}
 use Rattle.wad_levels.specs.declared.error.ReadError.{ReadError}
 use Rattle.wad_levels.proofs.ListingLemmas.{by_bytes}
@@ -29,15 +27,6 @@ all_map f p [] = refl
 all_map f p (x ∷ xs) = ap (λ (b : Bool). p (f x) && b) (all_map f p xs)
 
 -- ---- levels
-
-still_by : (P : LevelEntries → Type 0) (l : LevelEntries) (ls : List LevelEntries) (b : Bool) → P l → All P ls → All P (cond b (l ∷ ls) ls)
-still_by P l ls true here rest = All-cons P l ls here rest
-still_by P l ls false here rest = rest
-
--- what holds of levels holds of those that pass a test
-pub still : (P : LevelEntries → Type 0) (p : LevelEntries → Bool) (ls : List LevelEntries) → All P ls → All P (filter p ls)
-still P p [] all = All-nil P
-still P p (l ∷ ls) all = still_by P l (filter p ls) (p l) (All-head P l ls all) (still P p ls (All-tail P l ls all))
 
 -- bytes that are no WAD have no level that is asked for
 pub unread : (wad : List ℕ) (names : List (List ℕ)) (e : ReadError) → listing_refusal wad ≡ Some e → RefusesAsked wad names e

@@ -9,7 +9,7 @@ use Rattle.run_edit.specs.declared.error.EditorError.{EditorError}
 use Rattle.run_edit.specs.declared.error.EditorError.TheVariants.{OutOfMemory, InputTooLong, ReaderFailed, WriterFailed}
 use Rattle.wad_import.specs.declared.change.Change.{Change}
 use Rattle.wad_import.specs.declared.error.ImportError.{ImportError}
-use Rattle.wad_levels.specs.Listing.{entry_name}
+use Rattle.wad_levels.specs.Entries.{level_name}
 use Rattle.wad_levels.specs.declared.entries.LevelEntries.{LevelEntries}
 use Rattle.lump_records.specs.declared.records.Name8.{Name8}
 use Rattle.map_tables.specs.Tables.{Tables}
@@ -50,7 +50,7 @@ DumpsFor name refusal first cs m (Err e) writer-old writer-new errors-old errors
 abbrev pub DumpsLevel : Bool → List ℕ → LevelEntries → Result Bool EditorError
     → Option (List ℕ) → Option (List ℕ) → Option (List ℕ) → Option (List ℕ) → Type 0
 DumpsLevel exact wad l =
-    DumpsFor (entry_name wad l.marker) (map_refusal wad l)
+    DumpsFor (level_name wad l) (map_refusal wad l)
     (first_change exact (level_changes wad l)) (level_changes wad l) (level_map wad l)
 
 -- the level is left, or is a well-formed map

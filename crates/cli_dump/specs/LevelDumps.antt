@@ -12,7 +12,7 @@ use Rattle.wad_import.specs.Texts.{change_text, import_refusal_text}
 use Rattle.wad_import.specs.declared.change.Change.{Change}
 use Rattle.wad_import.specs.declared.error.ImportError.{ImportError}
 use Rattle.wad_levels.specs.Drawn.{drawn_lists}
-use Rattle.wad_levels.specs.Listing.{entry_name}
+use Rattle.wad_levels.specs.Entries.{level_name}
 use Rattle.wad_levels.specs.declared.entries.LevelEntries.{LevelEntries}
 use Rattle.lump_records.specs.Names.{name_text}
 use Rattle.lump_records.specs.declared.records.Name8.{Name8}
@@ -66,7 +66,7 @@ notes_for name None None cs = change_notes name cs
 
 abbrev pub level_notes : Bool → List ℕ → LevelEntries → List (List ℕ)
 level_notes exact wad l =
-    notes_for (entry_name wad l.marker) (map_refusal wad l)
+    notes_for (level_name wad l) (map_refusal wad l)
     (first_change exact (level_changes wad l)) (level_changes wad l)
 
 -- the notes of levels, of one behind another

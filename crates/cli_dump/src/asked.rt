@@ -1,7 +1,6 @@
 //! The maps of a project and the levels of a WAD that names ask for.
-ghost use Rattle.std.specs.Prelude.{◌≡◌, ◌∷◌, [], ◌++◌, All, IfErr, IfOk, IsOkUnless, OnOk, filter, map, string_bytes};
+ghost use Rattle.std.specs.Prelude.{◌≡◌, ◌∷◌, [], ◌++◌, IfErr, IfOk, IsOkUnless, OnOk, filter, map, string_bytes};
 ghost use Rattle.wad_levels.specs.Called.{is_asked_of};
-ghost use Rattle.wad_levels.specs.Entries.{IsLevelAt};
 ghost use Rattle.map_tables.specs.Projects.{project_of};
 ghost use Rattle.cli_dump.specs.Asked.{AreAsked, RefusesAsked, asked_among, has_level_called, has_map_called, have_levels, have_maps};
 
@@ -32,7 +31,6 @@ pub(crate) fn have_maps(maps: &Maps, names: &[String]) -> bool
 
 // Whether one of the levels has the name.
 fn has_level_called(wad: &Wad<'_>, levels: &[LevelEntries], name: &[u8]) -> bool
-    requires levels { All (IsLevelAt wad.now) levels.now }
     ensures { result ≡ has_level_called wad.now levels.now name.now }
 {
     last_called(wad, levels, name).is_some()
@@ -40,7 +38,6 @@ fn has_level_called(wad: &Wad<'_>, levels: &[LevelEntries], name: &[u8]) -> bool
 
 // Whether each of the names is the name of one of the levels.
 fn have_levels(wad: &Wad<'_>, levels: &[LevelEntries], names: &[String]) -> bool
-    requires levels { All (IsLevelAt wad.now) levels.now }
     ensures { result ≡ have_levels wad.now levels.now (map string_bytes names.now) }
 {
     for name in names {
@@ -99,7 +96,6 @@ fn asked_among(
     names: &[String],
     levels: &[LevelEntries],
 ) -> Result<Vec<LevelEntries>, ReadError>
-    requires levels { All (IsLevelAt wad.now) levels.now }
     ensures asked { IfOk result (λ asked. asked.items
         ≡ asked_among wad.now (map string_bytes names.now) levels.now) }
     ensures memory { IsOkUnless result ReadError.OutOfMemory }
@@ -119,7 +115,6 @@ pub(crate) fn asked_levels(
 ) -> Result<Vec<LevelEntries>, ReadError>
     ensures asked { IfOk result (λ asked.
         AreAsked wad.now (map string_bytes names.now) asked.items) }
-    ensures entries { IfOk result (λ asked. All (IsLevelAt wad.now) asked.items) }
     ensures refused { IfErr result (RefusesAsked wad.now (map string_bytes names.now)) }
 {
     let levels = match levels_in(alloc, wad) {

@@ -6,7 +6,6 @@ ghost use Rattle.map_dump.specs.Texts.{text_of, with_lf};
 ghost use Rattle.run_edit.specs.declared.error.EditorError.TheVariants.{WriterFailed};
 ghost use Rattle.wad_import.specs.Texts.{change_text, import_refusal_text};
 ghost use Rattle.wad_import.specs.declared.change.Change.{Change};
-ghost use Rattle.wad_levels.specs.Entries.{IsLevelAt};
 ghost use Rattle.map_tables.specs.Tables.{Tables};
 ghost use Rattle.map_tables.specs.WellFormed.{WellFormed};
 ghost use Rattle.cli_dump.specs.DumpSteps.{DumpsFor, DumpsLevel, DumpsLevels, KeepsMap};
@@ -23,7 +22,7 @@ use std::alloc::Global;
 use std::io::Write;
 use wad_file::Wad;
 use wad_import::{Change, ImportError, Imported};
-use wad_levels::{LevelEntries, read_wad};
+use wad_levels::{LevelEntries, level_name, read_wad};
 
 // Writes a change of the level with the name, after the words `before`.
 fn write_change<E: Write>(
@@ -193,13 +192,12 @@ fn dump_level<W: Write, E: Write>(
     writer: &mut W,
     errors: &mut E,
 ) -> Result<bool, EditorError>
-    requires level { IsLevelAt wad.now level }
     ensures dumped { DumpsLevel is_exact wad.now level result
         (W.contents writer.old) (W.contents writer.new)
         (E.contents errors.old) (E.contents errors.new) }
     ensures map { IfOk result (λ _. KeepsMap is_exact wad.now level) }
 {
-    let name = wad.name(level.marker);
+    let name = level_name(wad, level);
     match map_of_level(alloc, wad, level) {
         Ok(found) => {
             is_well_formed(&found);
@@ -219,7 +217,6 @@ fn dump_levels<W: Write, E: Write>(
     writer: &mut W,
     errors: &mut E,
 ) -> Result<bool, EditorError>
-    requires levels { All (IsLevelAt wad.now) levels.now }
     ensures dumped { DumpsLevels is_exact wad.now levels.now result
         (W.contents writer.old) (W.contents writer.new)
         (E.contents errors.old) (E.contents errors.new) }

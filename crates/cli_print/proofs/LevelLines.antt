@@ -10,7 +10,7 @@ use Rattle.map_dump.specs.Texts.{with_lf, text_of}
 use Rattle.lump_records.specs.Names.{name_text}
 use Rattle.lump_records.specs.declared.records.Name8.{Name8}
 use Rattle.cli_print.specs.Choosing.{LintWants}
-use Rattle.wad_levels.specs.Listing.{entry_name}
+use Rattle.wad_levels.specs.Entries.{level_name}
 use Rattle.wad_levels.specs.declared.entries.LevelEntries.{LevelEntries}
 use Rattle.wad_import.specs.Refused.{RefusesLevelImport}
 use Rattle.wad_import.specs.declared.error.ImportError.{ImportError}
@@ -38,18 +38,18 @@ no_map_line name e = map shown (name_text name) ++ no_map_text e
 
 lines_by : (wants : LintWants) (wad : List ℕ) (l : LevelEntries) (o : Option ImportError) → map_refusal wad l ≡ o → (lines : List (List ℕ)) × AreLevelLines wants wad l lines
 lines_by wants wad l None is = (remarks no_origin wants (level_map wad l), inl (is, refl))
-lines_by wants wad l (Some e) is = (no_map_line (entry_name wad l.marker) e ∷ [], inr (e, is, refl))
+lines_by wants wad l (Some e) is = (no_map_line (level_name wad l) e ∷ [], inr (e, is, refl))
 
 -- of each level there is something to say, or it has no lines
 pub some_lines : (wants : LintWants) (wad : List ℕ) (l : LevelEntries) → (lines : List (List ℕ)) × AreLevelLines wants wad l lines
 some_lines wants wad l = lines_by wants wad l (map_refusal wad l) refl
 
 -- the line of a level that is no map was told
-pub refusal_told : (wants : LintWants) (wad : List ℕ) (l : LevelEntries) (r : Result ℕ EditorError) (before : ℕ) (name : Name8) (e : ImportError) (u w : Option (List ℕ)) → name ≡ entry_name wad l.marker
-    → RefusesLevelImport wad l (entry_name wad l.marker) e → e ≢ import.OutOfMemory → WritesRemarks r before (no_map_line name e ∷ []) u w → WritesLevel wants wad l r before u w
+pub refusal_told : (wants : LintWants) (wad : List ℕ) (l : LevelEntries) (r : Result ℕ EditorError) (before : ℕ) (name : Name8) (e : ImportError) (u w : Option (List ℕ)) → name ≡ level_name wad l
+    → RefusesLevelImport wad l (level_name wad l) e → e ≢ import.OutOfMemory → WritesRemarks r before (no_map_line name e ∷ []) u w → WritesLevel wants wad l r before u w
 refusal_told wants wad l r before name e u w is (inl lacks) some told = absurd (some lacks)
 refusal_told wants wad l r before name e u w is (inr why) some told =
-    (no_map_line (entry_name wad l.marker) e ∷ [], inr (e, why, refl), subst (λ (n : Name8). WritesRemarks r before (no_map_line n e ∷ []) u w) is told)
+    (no_map_line (level_name wad l) e ∷ [], inr (e, why, refl), subst (λ (n : Name8). WritesRemarks r before (no_map_line n e ∷ []) u w) is told)
 
 -- no memory was found for the map of a level
 pub level_lost : (wants : LintWants) (wad : List ℕ) (l : LevelEntries) (before : ℕ) (u : Option (List ℕ)) → WritesLevel wants wad l (Err OutOfMemory) before u u

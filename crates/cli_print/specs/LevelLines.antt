@@ -4,7 +4,7 @@ use Rattle.std.specs.Io.KnownBytes.{Keeps}
 use Rattle.lump_records.specs.Names.{name_text}
 use Rattle.wad_levels.specs.Drawn.{drawn_lists}
 use Rattle.wad_levels.specs.Graphics.{GraphicNames}
-use Rattle.wad_levels.specs.Listing.{entry_name}
+use Rattle.wad_levels.specs.Entries.{level_name}
 use Rattle.wad_levels.specs.declared.entries.LevelEntries.{LevelEntries}
 use Rattle.wad_import.specs.Imported.{imported}
 use Rattle.wad_import.specs.Refused.{level_refusal}
@@ -30,11 +30,11 @@ no_map_text e = codes " no-map " ++ import_refusal_text e
 
 -- why the level of these entries is no map, whatever is changed of it
 abbrev pub map_refusal : List ℕ → LevelEntries → Option ImportError
-map_refusal wad l = level_refusal wad l (entry_name wad l.marker)
+map_refusal wad l = level_refusal wad l (level_name wad l)
 
 -- the map that a level is after the changes
 abbrev pub level_map : List ℕ → LevelEntries → Tables
-level_map wad l = imported (entry_name wad l.marker) (drawn_lists wad l)
+level_map wad l = imported (level_name wad l) (drawn_lists wad l)
 
 -- the refusal of a request that wants the map: there is no memory, or the level is none
 abbrev pub IsMapRefusal : List ℕ → LevelEntries → Refusal → Type 0
@@ -49,7 +49,7 @@ AreLevelLines wants wad l lines =
     ((map_refusal wad l ≡ None)
     × (lines ≡ remarks no_origin wants (level_map wad l)))
     ⊎ ((e : ImportError) × (map_refusal wad l ≡ Some e)
-    × (lines ≡ (map shown (name_text (entry_name wad l.marker)) ++ no_map_text e) ∷ []))
+    × (lines ≡ (map shown (name_text (level_name wad l)) ++ no_map_text e) ∷ []))
 
 -- the same of levels, of one behind another
 abbrev pub AreLinesOf : LintWants → List ℕ → List LevelEntries → List (List ℕ) → Type 0

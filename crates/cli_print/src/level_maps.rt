@@ -3,8 +3,7 @@ ghost use Rattle.std.specs.Prelude.{◌≡◌, ◌≤◌, None, IfErr, IfOk, Mat
 ghost use Rattle.wad_import.specs.Imported.{changes};
 ghost use Rattle.wad_import.specs.Refused.{RefusesLevelImport};
 ghost use Rattle.wad_levels.specs.Drawn.{drawn_lists};
-ghost use Rattle.wad_levels.specs.Entries.{IsLevelAt};
-ghost use Rattle.wad_levels.specs.Listing.{entry_name};
+ghost use Rattle.wad_levels.specs.Entries.{level_name};
 ghost use Rattle.map_tables.specs.ProjectBody.{alone};
 ghost use Rattle.map_tables.specs.Projects.{project_of};
 ghost use Rattle.cli_print.specs.LevelLines.{IsMapRefusal, IsWadChecked, level_map, map_refusal};
@@ -18,7 +17,7 @@ use std::alloc::Global;
 use std::io::Write;
 use wad_file::Wad;
 use wad_import::{ImportError, Imported, import_drawn};
-use wad_levels::{Hindrance, LevelEntries, read_lists, read_wad};
+use wad_levels::{Hindrance, LevelEntries, level_name, read_lists, read_wad};
 
 /// The map that a level is after the changes, alone in a project, and the changes; or why it is none.
 pub fn map_of_level(
@@ -26,14 +25,13 @@ pub fn map_of_level(
     wad: &Wad<'_>,
     level: LevelEntries,
 ) -> Result<Imported, ImportError>
-    requires level { IsLevelAt wad.now level }
     ensures { MatchResult result
         (λ i. (map_refusal wad.now level ≡ None)
         × (project_of i.maps ≡ alone (level_map wad.now level))
         × (i.changes.items ≡ changes (drawn_lists wad.now level)))
-        (RefusesLevelImport wad.now level (entry_name wad.now level.marker)) }
+        (RefusesLevelImport wad.now level (level_name wad.now level)) }
 {
-    let name = wad.name(level.marker);
+    let name = level_name(wad, level);
     match read_lists(alloc, wad, level) {
         Ok(drawn) => import_drawn(alloc, &drawn, name),
         Err(Hindrance::OutOfMemory) => Err(ImportError::OutOfMemory),
@@ -47,7 +45,6 @@ pub(crate) fn map_or_refusal(
     wad: &Wad<'_>,
     level: LevelEntries,
 ) -> Result<Imported, Refusal>
-    requires level { IsLevelAt wad.now level }
     ensures map { IfOk result (λ i. (map_refusal wad.now level ≡ None)
         × (project_of i.maps ≡ alone (level_map wad.now level))) }
     ensures refused { IfErr result (IsMapRefusal wad.now level) }

@@ -1,7 +1,6 @@
 //! What `picture` draws of a WAD: a level as the map that it is after the changes, and the tree that the WAD has of it.
 ghost use Rattle.std.specs.Prelude.{◌≡◌, ◌≤◌, ◌⊎◌, IfErr, IfOk, is_some, option_map};
 ghost use Rattle.run_edit.specs.declared.error.EditorError.TheVariants.{OutOfMemory};
-ghost use Rattle.wad_levels.specs.Entries.{IsLevelAt};
 ghost use Rattle.cli_refusals.specs.declared.refusal.Refusal.{Refusal};
 ghost use Rattle.cli_print.specs.LevelPicture.{IsLaidOverLevel, IsLevelPicturedOf, RefusesLayers, refusal_for_tree};
 
@@ -41,7 +40,6 @@ fn laid_over_level(
     drawn: &Map,
     layers: Layers,
 ) -> Result<Overlay, Refusal>
-    requires level { IsLevelAt wad.now level }
     ensures laid { IfOk result (IsLaidOverLevel layers wad.now level drawn.now.tables) }
     ensures refused { IfErr result (λ r. RefusesLayers layers wad.now level r
         ⊎ (r ≡ Refusal.Lines OutOfMemory)) }

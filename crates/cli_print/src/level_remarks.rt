@@ -1,9 +1,8 @@
 //! What `lint` writes about the levels of a WAD: the findings and warnings of the map that each is, or why it is none.
-ghost use Rattle.std.specs.Prelude.{◌≡◌, ◌≤◌, ◌+◌, ◌++◌, ◌∷◌, [], All, None, Some, List, ℕ, IfErr, IfOk, MatchResult, is_some, map, option_map};
+ghost use Rattle.std.specs.Prelude.{◌≡◌, ◌≤◌, ◌+◌, ◌++◌, ◌∷◌, [], List, ℕ, IfOk, MatchResult, is_some, map, option_map};
 ghost use Rattle.std.specs.Io.KnownBytes.{Appends};
 ghost use Rattle.map_dump.specs.Texts.{with_lf};
 ghost use Rattle.run_edit.specs.declared.error.EditorError.TheVariants.{OutOfMemory, WriterFailed};
-ghost use Rattle.wad_levels.specs.Entries.{IsLevelAt};
 ghost use Rattle.lump_records.specs.Names.{name_text};
 ghost use Rattle.cli_print.specs.Choosing.{choice_view, wants_view};
 ghost use Rattle.cli_print.specs.LevelLines.{AreLinesOf, IsWadLintedBy, IsWadLintedOf, WritesLevel, no_map_text};
@@ -26,7 +25,7 @@ use std::fs::Files;
 use std::io::Write;
 use wad_file::Wad;
 use wad_import::ImportError;
-use wad_levels::{LevelEntries, read_wad};
+use wad_levels::{LevelEntries, level_name, read_wad};
 
 // Writes that a level is no map, and why.
 fn write_why<W: Write>(error: &ImportError, writer: &mut W) -> Result<(), EditorError>
@@ -85,7 +84,6 @@ fn write_level<W: Write>(
     before: u32,
     writer: &mut W,
 ) -> Result<u32, EditorError>
-    requires level { IsLevelAt wad.now level }
     ensures { WritesLevel (wants_view wants.entry) wad.now level
         result before (W.contents writer.old) (W.contents writer.new) }
 {
@@ -100,7 +98,7 @@ fn write_level<W: Write>(
         ),
         Err(ImportError::OutOfMemory) => Err(EditorError::OutOfMemory),
         Err(error) => {
-            let name = wad.name(level.marker);
+            let name = level_name(wad, level);
             count_no_map(&name, &error, before, writer)
         }
     }
@@ -114,7 +112,6 @@ fn write_levels<W: Write>(
     wants: Wants<'_>,
     writer: &mut W,
 ) -> Result<u32, EditorError>
-    requires levels { All (IsLevelAt wad.now) levels.now }
     ensures { (lines : List (List ℕ))
         × AreLinesOf (wants_view wants.entry)
         wad.now levels.now lines

@@ -1,7 +1,6 @@
 //! The tree that a WAD has of a level.
 ghost use Rattle.std.specs.Prelude.{◌≡◌, None, IfErr, IfOk};
 ghost use Rattle.std.specs.List.{list_all};
-ghost use Rattle.wad_levels.specs.Entries.{IsLevelAt};
 ghost use Rattle.cli_print.specs.LevelTree.{IsOwnTree, RefusesTree, are_among, has_few_segs, has_whole_lumps, is_child_among, is_node_among, is_seg_among, is_sub_among, tree_refusal};
 
 use lump_records::{
@@ -29,7 +28,6 @@ pub enum TreeFault {
 
 // Whether the lumps of a level's tree are whole records long.
 fn has_whole_lumps(wad: &Wad<'_>, level: LevelEntries) -> bool
-    requires level { IsLevelAt wad.now level }
     ensures { result ≡ has_whole_lumps wad.now level }
 {
     level_lump(wad, level, 3).len() % 4 == 0
@@ -45,7 +43,6 @@ fn decoded(
     level: LevelEntries,
     marks: Vec<Mark>,
 ) -> Result<Overlay, TreeFault>
-    requires level { IsLevelAt wad.now level }
     ensures tree { IfOk result (IsOwnTree wad.now level) }
     ensures marks { IfOk result (λ o. o.marks ≡ marks) }
     ensures memory { IfErr result (λ e. e ≡ TreeFault.OutOfMemory) }
@@ -155,7 +152,6 @@ pub(crate) fn own_tree(
     level: LevelEntries,
     marks: Vec<Mark>,
 ) -> Result<Overlay, TreeFault>
-    requires level { IsLevelAt wad.now level }
     ensures shown { IfOk result (λ o. (tree_refusal wad.now level ≡ None)
         × IsOwnTree wad.now level o × (o.marks ≡ marks)) }
     ensures refused { IfErr result (RefusesTree wad.now level) }

@@ -1,6 +1,5 @@
 //! The levels of a WAD that a request asks for.
-ghost use Rattle.std.specs.Prelude.{◌≡◌, ◌∷◌, [], All, IfErr, IfOk, IfSome, option_map};
-ghost use Rattle.wad_levels.specs.Entries.{AreLevels, IsLevelAt};
+ghost use Rattle.std.specs.Prelude.{◌≡◌, ◌∷◌, [], IfErr, IfOk, option_map};
 ghost use Rattle.cli_print.specs.WantedLevels.{AreWanted, IsWanted, RefusesAllWanted, RefusesWanted, wanted_of};
 
 use std::alloc::Global;
@@ -21,9 +20,7 @@ fn alone(alloc: Global, level: LevelEntries) -> Result<Vec<LevelEntries>, ReadEr
 
 // The last level with the name, or the first of all if no name is asked for.
 fn wanted_of(wad: &Wad<'_>, levels: &[LevelEntries], name: Option<&str>) -> Option<LevelEntries>
-    requires levels { All (IsLevelAt wad.now) levels.now }
-    ensures wanted { result ≡ wanted_of wad.now (option_map (λ s. s.now) name.entry) levels.now }
-    ensures level { IfSome result (IsLevelAt wad.now) }
+    ensures { result ≡ wanted_of wad.now (option_map (λ s. s.now) name.entry) levels.now }
 {
     match name {
         Some(name) => last_called(wad, levels, name.as_bytes()),
@@ -38,7 +35,6 @@ pub(crate) fn wanted_level(
     name: Option<&str>,
 ) -> Result<LevelEntries, ReadError>
     ensures wanted { IfOk result (IsWanted wad.now (option_map (λ s. s.now) name.entry)) }
-    ensures entries { IfOk result (IsLevelAt wad.now) }
     ensures refused { IfErr result (RefusesWanted wad.now (option_map (λ s. s.now) name.entry)) }
 {
     let levels = match levels_in(alloc, wad) {
@@ -59,7 +55,6 @@ pub(crate) fn wanted_levels(
 ) -> Result<Vec<LevelEntries>, ReadError>
     ensures wanted { IfOk result (λ levels.
         AreWanted wad.now (option_map (λ s. s.now) name.entry) levels.items) }
-    ensures entries { IfOk result (λ levels. All (IsLevelAt wad.now) levels.items) }
     ensures refused { IfErr result
         (RefusesAllWanted wad.now (option_map (λ s. s.now) name.entry)) }
 {

@@ -1,7 +1,6 @@
 //! A map of a level of any WAD.
 ghost use Rattle.std.specs.Prelude.{◌≡◌, IfOk, IsOkUnless, MatchResult, OnOk, length, map};
 ghost use Rattle.std.specs.List.{range_with_len};
-ghost use Rattle.wad_levels.specs.Entries.{IsLevelAt};
 ghost use Rattle.wad_levels.specs.Drawn.{drawn_lists, drawn_view};
 ghost use Rattle.map_tables.specs.Ranges.{IsNamed, is_marker};
 ghost use Rattle.map_tables.specs.Tables.{empty_tables};
@@ -119,7 +118,6 @@ pub fn import_level(
     level: LevelEntries,
     name: Name8,
 ) -> Result<Imported, ImportError>
-    requires level { IsLevelAt wad.now level }
     ensures { MatchResult result (IsImported name (drawn_lists wad.now level))
         (RefusesLevelImport wad.now level name) }
 {

@@ -2,13 +2,14 @@
 -- levels have, the last one counts.
 use Rattle.std.specs.Prelude.{ℕ, Bool, ◌||◌, ◌==◌, List, find, flat_map, length, reverse, option_to_list, Option}
 use Rattle.std.specs.List.{list_any}
-use Rattle.wad_file.specs.Directory.{entry_text}
+use Rattle.lump_records.specs.Names.{name_text}
 use Rattle.wad_file.specs.Fields.{same_bytes}
+use Rattle.wad_levels.specs.Entries.{level_name}
 use Rattle.wad_levels.specs.declared.entries.LevelEntries.{LevelEntries}
 
 -- the level is called so
 abbrev pub is_level_called : List ℕ → List ℕ → LevelEntries → Bool
-is_level_called wad name l = same_bytes (entry_text wad l.marker) name
+is_level_called wad name l = same_bytes (name_text (level_name wad l)) name
 
 -- of these levels the last one of the name
 abbrev pub last_called : List ℕ → List LevelEntries → List ℕ → Option LevelEntries

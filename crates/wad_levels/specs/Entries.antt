@@ -1,5 +1,5 @@
 -- Where the levels of any WAD stand in its directory (docs/FORMAT.md, "Levels of other WADs").
-use Rattle.std.specs.Prelude.{◌≡◌, ℕ, ◌+◌, ◌-◌, ◌<◌, ◌≤◌, Bool, true, false, if◌then◌else◌, not, ◌&&◌, ◌||◌, ◌==◌, nat_lt, List, [], ◌∷◌, map, filter, find, position, take, drop, Option, unwrap_or, All, codes}
+use Rattle.std.specs.Prelude.{◌≡◌, ℕ, ◌+◌, ◌-◌, ◌<◌, ◌≤◌, Bool, true, false, if◌then◌else◌, not, ◌&&◌, ◌||◌, ◌==◌, nat_lt, min, List, [], ◌∷◌, map, filter, find, position, take, drop, Option, unwrap_or, All, codes}
 use Rattle.std.specs.List.{list_any, range_with_len}
 use Rattle.lump_records.specs.Names.{name_of, name_text}
 use Rattle.lump_records.specs.declared.records.Name8.{Name8}
@@ -7,7 +7,7 @@ use Rattle.wad_levels.specs.declared.entries.LevelEntries.{LevelEntries}
 use Rattle.wad_levels.specs.declared.entries.LevelForm.{LevelForm}
 use Rattle.wad_levels.specs.declared.entries.LevelForm.TheVariants.{Doom, Hexen, Udmf}
 use Rattle.wad_levels.specs.Levels.{lump_names}
-use Rattle.wad_file.specs.Directory.{entry_has_name, entry_text, lump_count}
+use Rattle.wad_file.specs.Directory.{entry, entry_has_name, entry_text, lump_count}
 use Rattle.wad_file.specs.Fields.{same_bytes}
 use Rattle.wad_levels.specs.Listing.{is_level_marker}
 
@@ -88,7 +88,16 @@ pub record AreLevels (wad : List ℕ) (levels : List LevelEntries) : Type 0 wher
       ≡ filter (is_level wad) (range_with_len 0 (lump_count wad))
   pub each : All (IsLevelAt wad) levels
 
+-- the entries of the level's lumps, as far as the directory goes
+abbrev pub lump_numbers : List ℕ → LevelEntries → List ℕ
+lump_numbers wad l =
+    range_with_len (l.marker + 1) (min l.lumps_end (lump_count wad) - (l.marker + 1))
+
 -- the entry of the level's lump of this number in a level's order, if it has one
 abbrev pub lump_entry : List ℕ → LevelEntries → ℕ → Option ℕ
-lump_entry wad l n =
-    find (λ k. rank wad k == n) (range_with_len (l.marker + 1) (l.lumps_end - (l.marker + 1)))
+lump_entry wad l n = find (λ k. rank wad k == n) (lump_numbers wad l)
+
+-- the name of the level's marker, or one without text where the directory has no such entry
+abbrev pub level_name : List ℕ → LevelEntries → Name8
+level_name wad l =
+    if nat_lt l.marker (lump_count wad) then (entry wad l.marker).name else name_of []

@@ -1,26 +1,22 @@
 //! The levels that names ask for: of a name that several levels have, the last one counts.
-ghost use Rattle.std.specs.Prelude.{◌≡◌, ◌++◌, All, IfOk, IfSome, IsOkUnless, OnOk, map, option_to_list, string_bytes};
+ghost use Rattle.std.specs.Prelude.{◌≡◌, ◌++◌, IfOk, IsOkUnless, OnOk, map, option_to_list, string_bytes};
 ghost use Rattle.wad_levels.specs.Called.{is_asked_of, is_level_among, is_level_called, last_called, last_of_each};
-ghost use Rattle.wad_levels.specs.Entries.{IsLevelAt};
 
-use crate::entries::LevelEntries;
+use crate::entries::{LevelEntries, level_name};
 use crate::error::ReadError;
 use std::alloc::Global;
 use wad_file::Wad;
 
 // Whether the level has the name.
 fn is_level_called(wad: &Wad<'_>, level: LevelEntries, name: &[u8]) -> bool
-    requires level { IsLevelAt wad.now level }
     ensures { result ≡ is_level_called wad.now name.now level }
 {
-    wad.is_named(name, level.marker)
+    level_name(wad, level).text() == name
 }
 
 /// The last of the levels with the name.
 pub fn last_called(wad: &Wad<'_>, levels: &[LevelEntries], name: &[u8]) -> Option<LevelEntries>
-    requires levels { All (IsLevelAt wad.now) levels.now }
-    ensures last { result ≡ last_called wad.now levels.now name.now }
-    ensures level { IfSome result (IsLevelAt wad.now) }
+    ensures { result ≡ last_called wad.now levels.now name.now }
 {
     let mut last = None;
     for level in levels {
@@ -38,7 +34,6 @@ fn add_last(
     name: &[u8],
     last: &mut Vec<LevelEntries>,
 ) -> Result<(), ReadError>
-    requires levels { All (IsLevelAt wad.now) levels.now }
     ensures added { OnOk result (last.new.items ≡ last.old.items
         ++ option_to_list (last_called wad.now levels.now name.now)) }
     ensures memory { IsOkUnless result ReadError.OutOfMemory }
@@ -59,7 +54,6 @@ pub fn last_of_each(
     levels: &[LevelEntries],
     names: &[String],
 ) -> Result<Vec<LevelEntries>, ReadError>
-    requires levels { All (IsLevelAt wad.now) levels.now }
     ensures last { IfOk result (λ last. last.items
         ≡ last_of_each wad.now levels.now (map string_bytes names.now)) }
     ensures memory { IsOkUnless result ReadError.OutOfMemory }

@@ -3,7 +3,6 @@ ghost use Rattle.std.specs.Prelude.{◌≡◌, ◌<◌, None, IfOk, IsOkUnless, 
 ghost use Rattle.std.specs.Option.{option_or};
 ghost use Rattle.wad_levels.specs.Drawn.{Hinders, drawn_lists, drawn_view, entries_hindrance, entry_hindrance, form_hindrance, hindrance, level_lump, lump_hindrance};
 ghost use Rattle.wad_file.specs.Directory.{lump_count};
-ghost use Rattle.wad_levels.specs.Entries.{IsLevelAt};
 ghost use Rattle.wad_levels.specs.Lengths.{HindersReading};
 
 use crate::entries::{LevelEntries, LevelForm, lump_entry};
@@ -43,7 +42,6 @@ impl Drop for Drawn {
 /// The bytes of the level's lump with this number in `LUMP_NAMES`: none if the level has no such lump, or one
 /// that ends beyond the file.
 pub fn level_lump<'a>(wad: &Wad<'a>, level: LevelEntries, number: usize) -> &'a [u8]
-    requires level { IsLevelAt wad.now level }
     ensures { result.now ≡ level_lump wad.now level number }
 {
     match lump_entry(wad, level, number) {
@@ -54,7 +52,6 @@ pub fn level_lump<'a>(wad: &Wad<'a>, level: LevelEntries, number: usize) -> &'a 
 
 // A copy of the bytes of the level's REJECT.
 fn reject_of(alloc: Global, wad: &Wad<'_>, level: LevelEntries) -> Result<Vec<u8>, Hindrance>
-    requires level { IsLevelAt wad.now level }
     ensures bytes { IfOk result (λ v. v.items ≡ level_lump wad.now level 8) }
     ensures memory { IsOkUnless result Hindrance.OutOfMemory }
 {
@@ -65,7 +62,6 @@ fn reject_of(alloc: Global, wad: &Wad<'_>, level: LevelEntries) -> Result<Vec<u8
 
 // Reads what was drawn of a level whose lumps are whole records long, so only memory can run out.
 fn drawn_of(alloc: Global, wad: &Wad<'_>, level: LevelEntries) -> Result<Drawn, Hindrance>
-    requires level { IsLevelAt wad.now level }
     ensures drawn { IfOk result (λ drawn. drawn_view drawn ≡ drawn_lists wad.now level) }
     ensures memory { IsOkUnless result Hindrance.OutOfMemory }
 {
@@ -124,7 +120,6 @@ fn entry_hindrance(wad: &Wad<'_>, number: usize, size: u32, k: u32) -> Option<Hi
 
 // The hindrance of the level's lump with this number, if there is one.
 fn lump_hindrance(wad: &Wad<'_>, level: LevelEntries, number: usize, size: u32) -> Option<Hindrance>
-    requires level { IsLevelAt wad.now level }
     requires some { 0 < size }
     ensures { result ≡ lump_hindrance wad.now level number size }
 {
@@ -136,7 +131,6 @@ fn lump_hindrance(wad: &Wad<'_>, level: LevelEntries, number: usize, size: u32) 
 
 // The first hindrance of the level's form and of its drawn lumps.
 fn entries_hindrance(wad: &Wad<'_>, level: LevelEntries) -> Option<Hindrance>
-    requires level { IsLevelAt wad.now level }
     ensures { result ≡ entries_hindrance wad.now level }
 {
     let sides = first_of(
@@ -160,7 +154,6 @@ fn entries_hindrance(wad: &Wad<'_>, level: LevelEntries) -> Option<Hindrance>
 /// The first cause of the level's form or of its drawn lumps why they can't be read, in the order of docs/FORMAT.md,
 /// "Levels of other WADs"; or `OutOfMemory`.
 pub fn read_lists(alloc: Global, wad: &Wad<'_>, level: LevelEntries) -> Result<Drawn, Hindrance>
-    requires level { IsLevelAt wad.now level }
     ensures { MatchResult result
         (λ drawn. (entries_hindrance wad.now level ≡ None)
         × (drawn_view drawn ≡ drawn_lists wad.now level))
@@ -181,7 +174,6 @@ pub fn read_lists(alloc: Global, wad: &Wad<'_>, level: LevelEntries) -> Result<D
 ///
 /// The first cause why none can be built, in the order of docs/FORMAT.md, "Levels of other WADs"; or `OutOfMemory`.
 pub fn read_drawn(alloc: Global, wad: &Wad<'_>, level: LevelEntries) -> Result<Drawn, Hindrance>
-    requires level { IsLevelAt wad.now level }
     ensures { MatchResult result
         (λ drawn. (hindrance wad.now level ≡ None) × (drawn_view drawn ≡ drawn_lists wad.now level))
         (Hinders wad.now level) }

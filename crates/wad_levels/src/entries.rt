@@ -4,7 +4,7 @@ ghost use Rattle.lump_records.specs.Names.{name_text};
 ghost use Rattle.wad_levels.specs.Levels.{lump_names};
 ghost use Rattle.wad_file.specs.Directory.{lump_count};
 ghost use Rattle.wad_file.specs.Fields.{same_bytes};
-ghost use Rattle.wad_levels.specs.Entries.{AreLevels, IsLevelAt, IsRunEnd, comes_later, form_of, goes_on, is_behavior, is_gl, is_gl_marker, is_gl_name, is_level, is_udmf, lump_entry, rank, rank_of_name};
+ghost use Rattle.wad_levels.specs.Entries.{AreLevels, IsLevelAt, IsRunEnd, comes_later, form_of, goes_on, is_behavior, is_gl, is_gl_marker, is_gl_name, is_level, is_udmf, level_name, lump_entry, rank, rank_of_name};
 
 use crate::error::ReadError;
 use crate::listing::is_marker;
@@ -229,14 +229,27 @@ pub fn levels_in(alloc: Global, wad: &Wad<'_>) -> Result<Vec<LevelEntries>, Read
     Ok(levels)
 }
 
+/// The name of a level's marker; without text if the directory has no such entry.
+pub fn level_name(wad: &Wad<'_>, level: LevelEntries) -> Name8
+    ensures { result ≡ level_name wad.now level }
+{
+    if level.marker < wad.count() {
+        wad.name(level.marker)
+    } else {
+        Name8 { bytes: [0; 8] }
+    }
+}
+
 /// The entry of the level's lump with this number in `LUMP_NAMES`, if the level has one.
 pub fn lump_entry(wad: &Wad<'_>, level: LevelEntries, number: usize) -> Option<u32>
-    requires among { level.lumps_end ≤ lump_count wad.now }
-    requires behind { level.marker < level.lumps_end }
     ensures entry { result ≡ lump_entry wad.now level number }
     ensures among { IfSome result (λ k. k < lump_count wad.now) }
 {
-    for k in level.marker + 1..level.lumps_end {
+    let end = level.lumps_end.min(wad.count());
+    if end <= level.marker {
+        return None;
+    }
+    for k in level.marker + 1..end {
         if rank(wad, k) == number {
             return Some(k);
         }

@@ -19,7 +19,7 @@ mod texture_lump;
 
 pub use called::{is_asked_of, last_called, last_of_each};
 pub use drawn::{Drawn, level_lump, read_drawn, read_lists};
-pub use entries::{LevelEntries, LevelForm, levels_in};
+pub use entries::{LevelEntries, LevelForm, level_name, levels_in};
 pub use error::ReadError;
 pub use graphics::{Graphics, graphics_in};
 pub use hindrance::{Hindrance, LineNeed};

@@ -1,9 +1,7 @@
 -- What becomes of each level rests on the names in the directory, and on what was drawn of the levels asked for.
 use Rattle.std.proofs.Common.{◌≡◌, ◌∙◌, sym, subst, ℕ, Bool, List, None, get_or, map}
-use Rattle.std.specs.Prelude.{All}
 use Rattle.wad_levels.specs.Called.{is_level_asked}
 use Rattle.wad_levels.specs.Drawn.{DrawnLists, drawn_lists, hindrance}
-use Rattle.wad_levels.specs.Entries.{IsLevelAt}
 use Rattle.wad_levels.specs.declared.entries.LevelEntries.{LevelEntries}
 use Rattle.wad_rebuild.specs.Alike.{HasSameDrawn, HasSameLevel, HaveSameLevels}
 use Rattle.wad_rebuild.specs.Parts.{HasLumps}
@@ -14,9 +12,8 @@ use Rattle.wad_rebuild.specs.declared.cause.Cause.TheVariants.{Hindered, TooMany
 use Rattle.wad_rebuild.specs.declared.levels.Fate.{Fate}
 use Rattle.wad_rebuild.specs.declared.levels.Fate.TheVariants.{NotAsked, Made, Left}
 use Rattle.wad_rebuild.specs.declared.levels.RebuiltLevel.{RebuiltLevel}
-use Rattle.wad_rebuild.proofs.AlikeLevels.{same_asked, same_drawn, same_hindrance, same_levels}
+use Rattle.wad_rebuild.proofs.AlikeLevels.{same_asked, same_drawn, same_hindrance, same_levels, same_name}
 use Rattle.wad_rebuild.proofs.PartLemmas.{stands}
-use Rattle.wad_rebuild.proofs.WholeLemmas.{levels_all}
 
 -- why none are made, where nothing hinders it
 unmade_alike :
@@ -54,20 +51,19 @@ pub rest_on_lumps :
     → AreRebuilt wad names levels → AreRebuilt other names levels
 rest_on_lumps wad other names levels inside outside s are =
     let es = map (λ (l : RebuiltLevel). l.entries) levels in
-    let each = levels_all wad levels are.levels_are.each in
     record {
       levels_are = same_levels wad other s.names es are.levels_are;
-      each = λ k d lt. one es are.levels_are.each (get_or levels k d) (each k d lt) (s.each k d lt) (are.each k d lt);
+      each = λ k d lt. one es (get_or levels k d) (s.each k d lt) (are.each k d lt);
     }
   where
     one :
-        (es : List LevelEntries) → All (IsLevelAt wad) es → (l : RebuiltLevel) → IsLevelAt wad l.entries → HasSameLevel wad other l.entries l.fate
+        (es : List LevelEntries) (l : RebuiltLevel) → HasSameLevel wad other l.entries l.fate
         → IsRebuilt wad es names l → IsRebuilt other es names l
-    one es all l at same r =
+    one es l same r =
         record {
-          name_is = r.name_is ∙ sym (s.names.names l.entries.marker at.among);
+          name_is = r.name_is ∙ sym (same_name wad other s.names l.entries);
           fate_is =
-              subst (λ (b : Bool). IsFate other b l.entries l.fate) (sym (same_asked wad other s.names es names l.entries all))
+              subst (λ (b : Bool). IsFate other b l.entries l.fate) (sym (same_asked wad other s.names es names l.entries))
               (fate_alike wad other (is_level_asked wad es names l.entries) l.entries l.fate
-              (λ d. same_hindrance wad other s.names (λ k lt. stands wad k inside lt) (λ k lt. stands other k outside lt) l.entries at d) same r.fate_is);
+              (λ d. same_hindrance wad other s.names (λ k lt. stands wad k inside lt) (λ k lt. stands other k outside lt) l.entries d) same r.fate_is);
         }

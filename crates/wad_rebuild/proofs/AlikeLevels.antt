@@ -1,19 +1,20 @@
 -- Two WADs with the same names in their directories have the same levels; what hinders one rests on its drawn lumps.
 use Rattle.std.proofs.Common.{◌≡◌, ◌∙◌, refl, sym, ap, subst, cond, ℕ, zero, suc, ◌+◌, ◌-◌, ◌<◌, ◌≤◌, Bool, true, false, not, ◌&&◌, List, [], ◌∷◌, filter, length, take, drop, length-drop, arith, Some, None, Option}
-use Rattle.std.specs.Prelude.{◌==◌, ◌%◌, ◌||◌, if◌then◌else◌, All, codes, find, flat_map, nat_lt, option_to_list, reverse}
+use Rattle.std.specs.Prelude.{◌==◌, ◌%◌, ◌||◌, if◌then◌else◌, All, codes, find, flat_map, get_or, min, nat_lt, option_to_list, reverse}
 use Rattle.std.specs.List.{range_with_len}
 use Rattle.std.specs.Option.{option_map_or, option_or}
 use Rattle.std.proofs.lemmas.Bool.{lt-ltb, ltb-false, ltb-true}
 use Rattle.std.proofs.lemmas.List.{get_or-reverse, length-reverse, length-take-le}
 use Rattle.std.proofs.lemmas.List.Elements.{All-head, All-tail}
 use Rattle.lump_records.specs.Lumps.{records_of}
-use Rattle.lump_records.specs.Names.{name_text}
+use Rattle.lump_records.specs.Names.{name_of, name_text}
+use Rattle.lump_records.specs.declared.records.Name8.{Name8}
 use Rattle.lump_records.specs.Records.{thing_at, line_at, side_at, vertex_at, sector_at}
 use Rattle.wad_file.specs.Directory.{entry, entry_has_name, entry_text, is_outside, lump_count, standing}
 use Rattle.wad_file.specs.Fields.{same_bytes}
 use Rattle.wad_levels.specs.Called.{is_asked_of, is_level_asked, is_level_called, last_called}
 use Rattle.wad_levels.specs.Drawn.{drawn_lists, entries_hindrance, entry_hindrance, form_hindrance, hindrance, level_lump, lists_hindrance, lump_hindrance}
-use Rattle.wad_levels.specs.Entries.{AreLevels, IsLevelAt, IsRunEnd, comes_later, form_of, goes_on, is_behavior, is_gl, is_gl_marker, is_gl_name, is_level, is_udmf, lump_entry, rank, rank_of_name}
+use Rattle.wad_levels.specs.Entries.{AreLevels, IsLevelAt, IsRunEnd, comes_later, form_of, goes_on, is_behavior, is_gl, is_gl_marker, is_gl_name, is_level, is_udmf, level_name, lump_entry, rank, rank_of_name}
 use Rattle.wad_levels.specs.Listing.{is_level_marker}
 use Rattle.wad_levels.specs.declared.entries.LevelEntries.{LevelEntries}
 use Rattle.wad_levels.specs.declared.entries.LevelForm.TheVariants.{Doom, Hexen, Udmf}
@@ -27,6 +28,13 @@ guarded : (i n : ℕ) (p q : Bool) → (i < n → p ≡ q) → (nat_lt i n && p)
 guarded i n p q same = by (nat_lt i n) refl
   where
     by : (b : Bool) → nat_lt i n ≡ b → (b && p) ≡ (b && q)
+    by true is = same (ltb-true i n is)
+    by false is = refl
+
+within : (i n : ℕ) (p q other : Name8) → (i < n → p ≡ q) → (if nat_lt i n then p else other) ≡ (if nat_lt i n then q else other)
+within i n p q other same = by (nat_lt i n) refl
+  where
+    by : (b : Bool) → nat_lt i n ≡ b → (if b then p else other) ≡ (if b then q else other)
     by true is = same (ltb-true i n is)
     by false is = refl
 
@@ -48,6 +56,16 @@ find_below p from (suc n) k e = by (p from) (find_below p (from + 1) n k) e
         → cond b (Some from) (find p (range_with_len (from + 1) n)) ≡ Some k → k < from + suc n
     by true below e = let s : from ≡ k = cc in omega (arith, s)
     by false below e = let s = below e in omega (arith, s)
+
+find_from : (p : ℕ → Bool) (from n k : ℕ) → find p (range_with_len from n) ≡ Some k → from ≤ k
+find_from p from zero k e = absurd (cc)
+find_from p from (suc n) k e = by (p from) (find_from p (from + 1) n k) e
+  where
+    by :
+        (b : Bool) → (find p (range_with_len (from + 1) n) ≡ Some k → from + 1 ≤ k)
+        → cond b (Some from) (find p (range_with_len (from + 1) n)) ≡ Some k → from ≤ k
+    by true first e = let s : from ≡ k = cc in omega (arith, s)
+    by false first e = let s = first e in omega (arith, s)
 
 find_alike : {X : Type 0} (p q : X → Bool) (xs : List X) → All (λ x. p x ≡ q x) xs → find p xs ≡ find q xs
 find_alike p q [] same = refl
@@ -154,26 +172,37 @@ module _ (wad other : List ℕ) (h : HasSameNames wad other) where
       }
 
   -- ---- the names that ask for them
-  same_last : (levels : List LevelEntries) (name : List ℕ) → All (IsLevelAt wad) levels → last_called other levels name ≡ last_called wad levels name
-  same_last levels name each =
+  pub same_name : (l : LevelEntries) → level_name other l ≡ level_name wad l
+  same_name l =
+      ap (λ (n : ℕ). if nat_lt l.marker n then (entry other l.marker).name else name_of []) h.count
+      ∙ within l.marker (lump_count wad) (entry other l.marker).name (entry wad l.marker).name (name_of []) (h.names l.marker)
+
+  same_last : (levels : List LevelEntries) (name : List ℕ) → last_called other levels name ≡ last_called wad levels name
+  same_last levels name =
       find_alike (is_level_called other name) (is_level_called wad name) (reverse levels)
       (all_reversed (λ (l : LevelEntries). is_level_called other name l ≡ is_level_called wad name l) levels
-      (λ k d lt. named name _ ((each k d lt).among)))
+      (λ k d lt. ap (λ (n : Name8). same_bytes (name_text n) name) (same_name (get_or levels k d))))
 
   pub same_asked :
-      (levels : List LevelEntries) (names : List (List ℕ)) (l : LevelEntries) → All (IsLevelAt wad) levels
+      (levels : List LevelEntries) (names : List (List ℕ)) (l : LevelEntries)
       → is_level_asked other levels names l ≡ is_level_asked wad levels names l
-  same_asked levels names l each =
+  same_asked levels names l =
       ap (λ (f : List ℕ → List LevelEntries). is_asked_of names (flat_map f names) l)
-      (λ i name. option_to_list (same_last levels name each i))
+      (λ i name. option_to_list (same_last levels name i))
 
   -- ---- their lumps
-  pub same_entry : (l : LevelEntries) (n : ℕ) → IsLevelAt wad l → lump_entry other l n ≡ lump_entry wad l n
-  same_entry l n i =
-      let among = i.lumps.among in
-      let behind = i.lumps.behind in
-      find_same (λ k. rank other k == n) (λ k. rank wad k == n) (l.marker + 1) (l.lumps_end - (l.marker + 1))
-      (λ k low high. ap (λ (r : ℕ). r == n) (ranked k (omega (arith, among, behind, high))))
+  pub same_entry : (l : LevelEntries) (n : ℕ) → lump_entry other l n ≡ lump_entry wad l n
+  same_entry l n =
+      ap (λ (c : ℕ). find (λ k. rank other k == n) (range_with_len (l.marker + 1) (min l.lumps_end c - (l.marker + 1)))) h.count
+      ∙ find_same (λ k. rank other k == n) (λ k. rank wad k == n) (l.marker + 1) (min l.lumps_end (lump_count wad) - (l.marker + 1))
+      (λ k low high. ap (λ (r : ℕ). r == n) (ranked k (omega (arith, low, high))))
+
+-- the entry that was found of a level's lump is one of the directory
+pub found_among : (wad : List ℕ) (l : LevelEntries) (n k : ℕ) → lump_entry wad l n ≡ Some k → k < lump_count wad
+found_among wad l n k e =
+    let first = find_from (λ j. rank wad j == n) (l.marker + 1) (min l.lumps_end (lump_count wad) - (l.marker + 1)) k e in
+    let below = find_below (λ j. rank wad j == n) (l.marker + 1) (min l.lumps_end (lump_count wad) - (l.marker + 1)) k e in
+    omega (arith, below, first)
 
 -- what was drawn of a level
 pub same_drawn : (wad other : List ℕ) (l : LevelEntries) → HasSameDrawn wad other l → drawn_lists other l ≡ drawn_lists wad l
@@ -213,40 +242,37 @@ entry_alike wad other n size k inside outside e =
 
 module _ (wad other : List ℕ) (h : HasSameNames wad other) (inside : AreInside wad) (outside : AreInside other) where
   lump_alike :
-      (l : LevelEntries) (n size : ℕ) → IsLevelAt wad l → level_lump other l n ≡ level_lump wad l n
+      (l : LevelEntries) (n size : ℕ) → level_lump other l n ≡ level_lump wad l n
       → lump_hindrance other l n size ≡ lump_hindrance wad l n size
-  lump_alike l n size i same = by (lump_entry wad l n) refl
+  lump_alike l n size same = by (lump_entry wad l n) refl
     where
       missing : Option Hindrance
       missing = Some (LumpMissing n)
 
       by : (o : Option ℕ) → lump_entry wad l n ≡ o → lump_hindrance other l n size ≡ lump_hindrance wad l n size
       by None e =
-          ap (λ (o : Option ℕ). option_map_or (entry_hindrance other n size) o missing) (same_entry wad other h l n i ∙ e)
+          ap (λ (o : Option ℕ). option_map_or (entry_hindrance other n size) o missing) (same_entry wad other h l n ∙ e)
           ∙ sym (ap (λ (o : Option ℕ). option_map_or (entry_hindrance wad n size) o missing) e)
       by (Some k) e =
-          let below = find_below (λ j. rank wad j == n) (l.marker + 1) (l.lumps_end - (l.marker + 1)) k e in
-          let among = i.lumps.among in
-          let behind = i.lumps.behind in
-          let lt : k < lump_count wad = omega (arith, below, among, behind) in
-          let o = same_entry wad other h l n i ∙ e in
+          let lt : k < lump_count wad = found_among wad l n k e in
+          let o = same_entry wad other h l n ∙ e in
           let bytes : standing other k ≡ standing wad k =
           sym (ap (λ (x : Option ℕ). option_map_or (standing other) x []) o) ∙ same ∙ ap (λ (x : Option ℕ). option_map_or (standing wad) x []) e in
           ap (λ (x : Option ℕ). option_map_or (entry_hindrance other n size) x missing) o
           ∙ entry_alike wad other n size k (inside k lt) (outside k (subst (λ (m : ℕ). k < m) (sym h.count) lt)) bytes
           ∙ sym (ap (λ (x : Option ℕ). option_map_or (entry_hindrance wad n size) x missing) e)
 
-  entries_alike : (l : LevelEntries) → IsLevelAt wad l → HasSameDrawn wad other l → entries_hindrance other l ≡ entries_hindrance wad l
-  entries_alike l at d =
-      let e0 = lump_alike l 0 10 at (d 0 0 (omega arith)) in
-      let e1 = lump_alike l 1 14 at (d 1 0 (omega arith)) in
-      let e2 = lump_alike l 2 30 at (d 2 0 (omega arith)) in
-      let e3 = lump_alike l 3 4 at (d 3 0 (omega arith)) in
-      let e7 = lump_alike l 7 26 at (d 4 0 (omega arith)) in
+  entries_alike : (l : LevelEntries) → HasSameDrawn wad other l → entries_hindrance other l ≡ entries_hindrance wad l
+  entries_alike l d =
+      let e0 = lump_alike l 0 10 (d 0 0 (omega arith)) in
+      let e1 = lump_alike l 1 14 (d 1 0 (omega arith)) in
+      let e2 = lump_alike l 2 30 (d 2 0 (omega arith)) in
+      let e3 = lump_alike l 3 4 (d 3 0 (omega arith)) in
+      let e7 = lump_alike l 7 26 (d 4 0 (omega arith)) in
       λ i. option_or (form_hindrance l.form) (option_or (e0 i) (option_or (e1 i) (option_or (e2 i) (option_or (e3 i) (e7 i)))))
 
-  pub same_hindrance : (l : LevelEntries) → IsLevelAt wad l → HasSameDrawn wad other l → hindrance other l ≡ hindrance wad l
-  same_hindrance l at d =
-      let e = entries_alike l at d in
+  pub same_hindrance : (l : LevelEntries) → HasSameDrawn wad other l → hindrance other l ≡ hindrance wad l
+  same_hindrance l d =
+      let e = entries_alike l d in
       let s = same_drawn wad other l d in
       λ i. option_or (e i) (lists_hindrance (s i))

@@ -21,6 +21,7 @@ use Rattle.wad_build.specs.Wad.{all_lumps, level_part, lumps_of, wad_bytes, with
 use Rattle.wad_build.proofs.OneLevel.{one_level}
 use Rattle.wad_rebuild.specs.ReadBack.{BuildsAreTheRebuiltLumps, IsLevelOfMap, RebuiltLumpsAreTheBuilds}
 use Rattle.wad_rebuild.specs.Rebuilt.{made_lumps, ten_bytes}
+use Rattle.wad_rebuild.specs.Made.{reject_of}
 use Rattle.wad_rebuild.specs.Remade.{IsRemade, remade_level}
 use Rattle.wad_rebuild.specs.declared.made.MadeLumps.{MadeLumps}
 use Rattle.wad_rebuild.proofs.MapLevels.{built_again}
@@ -73,7 +74,7 @@ ten_are m wad l made fits is =
     let subs = records.sub_bytes ∙ ap (flat_map sub_record) (sym records.subs) in
     let nodes = records.node_bytes ∙ ap (flat_map node_record) (sym records.nodes) in
     let sectors = same_bytes sector_at sector_record 26 (level_lump wad l 7) (omega arith) whole.sectors (level_bytes wad l 7 fits) sector_record-at in
-    λ i. things i ∷ lines i ∷ sides i ∷ vertices i ∷ segs i ∷ subs i ∷ nodes i ∷ sectors i ∷ made.reject.items ∷ made.blockmap.items ∷ []
+    λ i. things i ∷ lines i ∷ sides i ∷ vertices i ∷ segs i ∷ subs i ∷ nodes i ∷ sectors i ∷ reject_of (level_lump wad l 8) made ∷ made.blockmap.items ∷ []
 
 pub same_lumps : RebuiltLumpsAreTheBuilds
 same_lumps m wad l made level of_map is built =

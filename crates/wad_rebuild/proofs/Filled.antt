@@ -15,7 +15,7 @@ use Rattle.wad_rebuild.specs.declared.levels.Fate.TheVariants.{NotAsked, Made, L
 use Rattle.wad_rebuild.specs.declared.levels.RebuiltLevel.{RebuiltLevel}
 use Rattle.wad_rebuild.specs.declared.made.MadeLumps.{MadeLumps}
 use Rattle.wad_rebuild.proofs.Contents.{between_part, contents_join, contents_long, contents_some, contents_split, range_split}
-use Rattle.wad_rebuild.proofs.ReadBack.{Follow}
+use Rattle.wad_rebuild.proofs.Following.{Follow}
 
 -- ---- lumps at hand
 
@@ -55,7 +55,7 @@ hand_contents (x ∷ xs) (l ∷ ls) a = same l x a.0 a.1 (hand_contents xs ls a.
 
 -- what was made of a level of one WAD makes the same lumps of that level of the other
 abbrev pub MakesSame : List ℕ → List ℕ → Type 0
-MakesSame wad whole = (l : LevelEntries) (m : MadeLumps) → IsLevelAt wad l → ten_lumps whole l m ≡ ten_lumps wad l m
+MakesSame wad whole = (l : LevelEntries) (m : MadeLumps) → ten_lumps whole l m ≡ ten_lumps wad l m
 
 kept_long : (wad : List ℕ) (held : Option (List ℕ)) (a b : ℕ) → length (kept_between wad held a b) ≡ b - a
 kept_long wad held a b = length-map-range_with_len (kept_at wad held) a (b - a)
@@ -119,7 +119,7 @@ fill_made wad held l m (x ∷ ts) at are =
           λ whole pre post e p c same.
           let first : lump_at whole l.marker ≡ x =
           one_between whole l.marker x (between_part whole pre (x ∷ []) (rest.lumps ++ post) l.marker (l.marker + 1) e p refl (omega (arith, low, mid, high, c))) in
-          let next : ten_lumps whole l m ≡ ts = same l m at ∙ sym tens in
+          let next : ten_lumps whole l m ≡ ts = same l m ∙ sym tens in
           (λ i. first i ∷ next i);
     }
 

@@ -6,9 +6,11 @@ pub mod Contents
 pub mod Padded
 pub mod AlikeLevels
 pub mod AlikeFates
+pub mod Following
 pub mod ReadBack
 pub mod MapLevels
 pub mod BuildBytes
 pub mod OwnLevels
 pub mod Filled
+pub mod StandIns
 pub mod Given

@@ -18,7 +18,7 @@ use Rattle.wad_build.proofs.LengthLemmas.{lump_length}
 use Rattle.wad_build.proofs.SoundLemmas.{sound_over}
 use Rattle.wad_rebuild.specs.Causes.{IsBlockmapCause, IsTreeCause}
 use Rattle.wad_rebuild.specs.Kept.{kept_faults}
-use Rattle.wad_rebuild.specs.Made.{HasRecords}
+use Rattle.wad_rebuild.specs.Made.{HasRecords, reject_of}
 use Rattle.wad_rebuild.specs.Remade.{AreWholeLumps, HasFrontTree, IsLeftFor, IsMadeAnew, IsUnmade, front_edges, front_ends, reject_over, remade_level, used_count, used_front}
 use Rattle.wad_rebuild.specs.declared.made.MadeLumps.{MadeLumps}
 use Rattle.wad_rebuild.specs.declared.cause.Cause.{Cause}
@@ -41,7 +41,7 @@ whole b m ws r k =
 
 -- the lumps of a tree and of the blocks over a level's own lines make it sound
 pub made : (d : DrawnLists) (b : Built) (m : MadeLumps) → HasRecords b m → IsBuiltOver (front_edges d) (used_front d) b → IsBlockmapOver (front_ends d) m.blockmap.items
-    → m.reject.items ≡ reject_over (length d.sectors) d.reject → m.kept.items ≡ kept_faults d.lines → IsMadeAnew d m
+    → reject_of d.reject m ≡ reject_over (length d.sectors) d.reject → m.kept.items ≡ kept_faults d.lines → IsMadeAnew d m
 made d b m r t k j f =
     let lists : HasTree b (remade_level d m) = record { vertices = r.vertices; segs = r.segs; subs = r.subs; nodes = r.nodes } in
     record {
@@ -100,7 +100,7 @@ blocks_refused d front ls cause few tree f l c =
 
 pub made_over : (d : DrawnLists) (front : List Vertex) (ls ks : List Line) (b : Built) (m : MadeLumps) (bytes : List ℕ) → front ≡ used_front d → ls ≡ d.lines → ks ≡ d.lines
     → HasRecords b m → IsBuiltOver (edges_in front ls) front b → IsBlockmapOver (ends_over front ks) bytes → m.blockmap.items ≡ bytes
-    → m.reject.items ≡ reject_over (length d.sectors) d.reject → m.kept.items ≡ kept_faults d.lines → IsMadeAnew d m
+    → reject_of d.reject m ≡ reject_over (length d.sectors) d.reject → m.kept.items ≡ kept_faults d.lines → IsMadeAnew d m
 made_over d front ls ks b m bytes f l k r t w e j kept =
     made d b m r
     (subst (λ (xs : List Line). IsBuiltOver (edges_in (used_front d) xs) (used_front d) b) l (subst (λ (xs : List Vertex). IsBuiltOver (edges_in xs ls) xs b) f t))

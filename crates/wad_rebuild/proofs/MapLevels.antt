@@ -10,6 +10,7 @@ use Rattle.tree_nodes.specs.Built.{IsBuiltOver}
 use Rattle.tree_pieces.specs.Edges.{edges_in}
 use Rattle.wad_build.specs.Sound.{no_rejects}
 use Rattle.wad_levels.specs.Drawn.{DrawnLists}
+use Rattle.wad_rebuild.specs.Made.{reject_of}
 use Rattle.wad_rebuild.specs.ReadBack.{IsDrawnAs, RebuiltMapsAreBuilt}
 use Rattle.wad_rebuild.specs.Remade.{reject_over, used_front}
 
@@ -19,7 +20,7 @@ over P m d is p = subst (λ (ls : List Line). P m.vertices ls) is.lines (subst (
 
 pub built_again : RebuiltMapsAreBuilt
 built_again m d made is anew =
-    let reject : made.reject.items ≡ no_rejects (length m.sectors) = anew.reject ∙ ap (λ (xs : List Sector). reject_over (length xs) d.reject) is.sectors ∙ is.in_sight in
+    let reject : reject_of d.reject made ≡ no_rejects (length m.sectors) = anew.reject ∙ ap (λ (xs : List Sector). reject_over (length xs) d.reject) is.sectors ∙ is.in_sight in
     record {
       well_formed = is.well_formed;
       tree = anew.tree;

@@ -5,12 +5,12 @@ use Rattle.std.specs.List.{list_all, list_any}
 use Rattle.std.proofs.Math.Seq.{take-suc}
 use Rattle.std.proofs.lemmas.List.{map-append, take_all}
 use Rattle.std.proofs.lemmas.List.Elements.{All-nil, All-cons, All-head, All-push, All-tail}
-use Rattle.wad_file.specs.Directory.{entry, entry_text, wad_refusal}
+use Rattle.wad_file.specs.Directory.{entry_text, wad_refusal}
 use Rattle.wad_file.specs.Fields.{same_bytes}
 use Rattle.wad_file.specs.Placed.{Placed, placed_size}
 use Rattle.wad_file.proofs.NameLemmas.{any_map}
 use Rattle.wad_levels.specs.Called.{is_asked_of, is_level_asked, last_of_each}
-use Rattle.wad_levels.specs.Entries.{AreLevels, IsLevelAt}
+use Rattle.wad_levels.specs.Entries.{AreLevels, IsLevelAt, level_name}
 use Rattle.wad_levels.specs.declared.entries.LevelEntries.{LevelEntries}
 use Rattle.wad_rebuild.specs.Rebuilt.{AreRebuilt, IsFate, IsRebuilt, has_level, lumps_refusal, size_limit, whole_refusal}
 use Rattle.wad_rebuild.specs.Held.{placed_lumps}
@@ -72,11 +72,11 @@ of_wad wad names w = rw w refl
 -- ---- the levels so far, each with what becomes of it
 pub is_rebuilt :
     (wad : List ℕ) (levels last : List LevelEntries) (names : List (List ℕ)) (x : RebuiltLevel) (l : LevelEntries) (asked : Bool) → x.entries ≡ l
-    → x.name ≡ (entry wad l.marker).name → IsFate wad asked l x.fate → asked ≡ is_asked_of names last l → last ≡ last_of_each wad levels names → IsRebuilt wad levels names x
+    → x.name ≡ level_name wad l → IsFate wad asked l x.fate → asked ≡ is_asked_of names last l → last ≡ last_of_each wad levels names → IsRebuilt wad levels names x
 is_rebuilt wad levels last names x l asked e n f a o =
     let same = a ∙ ap (λ (ms : List LevelEntries). is_asked_of names ms l) o in
     record {
-      name_is = subst (λ (k : LevelEntries). x.name ≡ (entry wad k.marker).name) (sym e) n;
+      name_is = subst (λ (k : LevelEntries). x.name ≡ level_name wad k) (sym e) n;
       fate_is =
           subst (λ (k : LevelEntries). IsFate wad (is_level_asked wad levels names k) k x.fate) (sym e)
           (subst (λ (b : Bool). IsFate wad b l x.fate) same f);

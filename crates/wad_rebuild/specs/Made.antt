@@ -1,9 +1,14 @@
--- The bytes of a tree's lists.
-use Rattle.std.specs.Prelude.{◌≡◌, flat_map}
+-- The bytes of a tree's lists, and of REJECT.
+use Rattle.std.specs.Prelude.{◌≡◌, ℕ, List, flat_map}
+use Rattle.std.specs.Option.{option_map_or}
 use Rattle.lump_records.specs.Lumps.{records_of}
 use Rattle.lump_records.specs.Records.{vertex_at, seg_at, sub_at, node_at, vertex_record, seg_record, sub_record, node_record}
 use Rattle.tree_nodes.specs.declared.built.Built.{Built}
 use Rattle.wad_rebuild.specs.declared.made.MadeLumps.{MadeLumps}
+
+-- the bytes of REJECT: those that were made, or else the level's own
+abbrev pub reject_of : List ℕ → MadeLumps → List ℕ
+reject_of own m = option_map_or (λ v. v.items) m.reject own
 
 -- the lumps are the bytes of the tree's lists, and hold them
 pub record HasRecords (b : Built) (m : MadeLumps) : Type 0 where

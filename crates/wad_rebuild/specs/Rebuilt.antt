@@ -4,7 +4,7 @@ use Rattle.std.specs.Option.{option_map, option_or}
 use Rattle.std.specs.List.{list_all, list_any, range_with_len}
 use Rattle.wad_levels.specs.Called.{is_level_asked}
 use Rattle.wad_levels.specs.Drawn.{drawn_lists, level_lump}
-use Rattle.wad_levels.specs.Entries.{AreLevels, is_level}
+use Rattle.wad_levels.specs.Entries.{AreLevels, is_level, level_name}
 use Rattle.wad_file.specs.Directory.{are_inside, entry, entry_text, first_failed, lump_count, wad_refusal}
 use Rattle.wad_levels.specs.Levels.{lump_names}
 use Rattle.wad_file.specs.Fields.{same_bytes}
@@ -14,6 +14,7 @@ use Rattle.wad_levels.specs.declared.entries.LevelEntries.{LevelEntries}
 use Rattle.wad_build.specs.Wad.{with_names}
 use Rattle.wad_file.specs.Lumps.{IsWadOf, Lump, lump_at, lumps_between, wad_size}
 use Rattle.wad_rebuild.specs.Kept.{kept_faults}
+use Rattle.wad_rebuild.specs.Made.{reject_of}
 use Rattle.wad_rebuild.specs.Remade.{IsLeftFor, IsRemade}
 use Rattle.wad_rebuild.specs.declared.cause.Cause.{Cause}
 use Rattle.wad_rebuild.specs.declared.error.RebuildError.{RebuildError}
@@ -38,7 +39,7 @@ IsFate wad asked l (Left c) = (asked ≡ true) × IsLeftFor wad l c × (c ≢ Ca
 -- one of each, and where there are none for all
 pub record IsRebuilt (wad : List ℕ) (levels : List LevelEntries) (names : List (List ℕ))
     (l : RebuiltLevel) : Type 0 where
-  pub name_is : l.name ≡ (entry wad l.entries.marker).name
+  pub name_is : l.name ≡ level_name wad l.entries
   pub fate_is : IsFate wad (is_level_asked wad levels names l.entries) l.entries l.fate
 
 -- they are all levels of the WAD in the order of its directory, each with what became of it
@@ -60,7 +61,8 @@ kept_in wad l (Left c) = []
 abbrev pub ten_bytes : List ℕ → LevelEntries → MadeLumps → List (List ℕ)
 ten_bytes wad l m =
     level_lump wad l 0 ∷ level_lump wad l 1 ∷ level_lump wad l 2 ∷ m.vertices.items
-    ∷ m.segs.items ∷ m.subs.items ∷ m.nodes.items ∷ level_lump wad l 7 ∷ m.reject.items
+    ∷ m.segs.items ∷ m.subs.items ∷ m.nodes.items ∷ level_lump wad l 7
+    ∷ reject_of (level_lump wad l 8) m
     ∷ m.blockmap.items ∷ []
 
 -- these lumps

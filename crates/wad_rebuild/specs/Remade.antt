@@ -19,7 +19,7 @@ use Rattle.wad_levels.specs.declared.entries.LevelEntries.{LevelEntries}
 use Rattle.wad_build.specs.Reject.{reject_size}
 use Rattle.wad_build.specs.Sound.{HasTree, IsSoundOver, no_rejects}
 use Rattle.wad_rebuild.specs.Kept.{kept_faults}
-use Rattle.wad_rebuild.specs.Made.{HasRecords}
+use Rattle.wad_rebuild.specs.Made.{HasRecords, reject_of}
 use Rattle.wad_rebuild.specs.declared.made.MadeLumps.{MadeLumps}
 use Rattle.wad_rebuild.specs.declared.cause.Cause.{Cause}
 use Rattle.wad_rebuild.specs.declared.cause.Cause.TheVariants.{Hindered, TooManySectors, NoTree, NoBlockmap, OutOfMemory}
@@ -60,7 +60,7 @@ remade_level d m =
       subs = records_of sub_at 4 m.subs.items;
       nodes = records_of node_at 28 m.nodes.items;
       sectors = d.sectors;
-      reject = m.reject.items;
+      reject = reject_of d.reject m;
       blockmap = m.blockmap.items;
     }
 
@@ -82,7 +82,7 @@ pub record IsMadeAnew (d : DrawnLists) (m : MadeLumps) : Type 0 where
   pub lists : HasTree tree (remade_level d m)
   pub blocks : IsBlockmapOver (front_ends d) m.blockmap.items
   pub sound : IsSoundOver (used_front d) (remade_level d m)
-  pub reject : m.reject.items ≡ reject_over (length d.sectors) d.reject
+  pub reject : reject_of d.reject m ≡ reject_over (length d.sectors) d.reject
   pub whole : AreWholeLumps m
   pub kept : m.kept.items ≡ kept_faults d.lines
 

@@ -2,8 +2,7 @@
 ghost use Rattle.std.specs.Prelude.{◌≡◌, All, IfOk, IsOkUnless, map, string_bytes};
 ghost use Rattle.std.specs.List.{list_all, list_any};
 ghost use Rattle.wad_levels.specs.Called.{last_of_each};
-ghost use Rattle.wad_levels.specs.Entries.{AreLevels, IsLevelAt};
-ghost use Rattle.wad_file.specs.Directory.{entry, entry_text};
+ghost use Rattle.wad_levels.specs.Entries.{AreLevels, level_name};
 ghost use Rattle.wad_file.specs.Fields.{same_bytes};
 ghost use Rattle.wad_rebuild.specs.Rebuilt.{AreRebuilt, IsFate, has_level};
 
@@ -14,7 +13,7 @@ use crate::remade::remake;
 use lump_records::Name8;
 use std::alloc::Global;
 use wad_file::Wad;
-use wad_levels::{LevelEntries, is_asked_of, last_of_each};
+use wad_levels::{LevelEntries, is_asked_of, last_of_each, level_name};
 
 /// What became of a level.
 pub enum Fate {
@@ -78,7 +77,6 @@ fn fate_of(
     level: LevelEntries,
     is_asked: bool,
 ) -> Result<Fate, RebuildError>
-    requires level { IsLevelAt wad.now level }
     ensures fate { IfOk result (IsFate wad.now is_asked level) }
     ensures memory { IsOkUnless result RebuildError.OutOfMemory }
 {
@@ -99,13 +97,12 @@ fn rebuilt_level(
     level: LevelEntries,
     is_asked: bool,
 ) -> Result<RebuiltLevel, RebuildError>
-    requires level { IsLevelAt wad.now level }
-    ensures name { IfOk result (λ l. l.name ≡ (entry wad.now level.marker).name) }
+    ensures name { IfOk result (λ l. l.name ≡ level_name wad.now level) }
     ensures entries { IfOk result (λ l. l.entries ≡ level) }
     ensures fate { IfOk result (λ l. IsFate wad.now is_asked level l.fate) }
     ensures memory { IsOkUnless result RebuildError.OutOfMemory }
 {
-    let name = wad.name(level.marker);
+    let name = level_name(wad, level);
     let fate = fate_of(alloc, wad, level, is_asked)?;
     Ok(RebuiltLevel {
         name,

@@ -1,5 +1,6 @@
 //! The lumps that a build makes of a level, as bytes.
 ghost use Rattle.std.specs.Prelude.{◌≡◌, IfOk, IsOkUnless};
+ghost use Rattle.std.specs.Option.{option_map_or};
 ghost use Rattle.wad_rebuild.specs.Made.{HasRecords};
 ghost use Rattle.wad_build.specs.Reject.{reject_size};
 ghost use Rattle.wad_rebuild.specs.Remade.{reject_over};
@@ -11,14 +12,14 @@ use std::alloc::Global;
 use tree_nodes::Built;
 use wad_build::reject;
 
-/// The lumps that a build makes of a level, as bytes: VERTEXES, SEGS, SSECTORS, NODES, REJECT, BLOCKMAP; and the faults
-/// of its lines that prevent no build, and so stay.
+/// The lumps that a build makes of a level, as bytes: VERTEXES, SEGS, SSECTORS, NODES, BLOCKMAP, and REJECT unless the
+/// level keeps its own; and the faults of its lines that prevent no build, and so stay.
 pub struct MadeLumps {
     pub vertices: Vec<u8>,
     pub segs: Vec<u8>,
     pub subs: Vec<u8>,
     pub nodes: Vec<u8>,
-    pub reject: Vec<u8>,
+    pub reject: Option<Vec<u8>>,
     pub blockmap: Vec<u8>,
     pub kept: Vec<KeptFault>,
 }
@@ -46,28 +47,17 @@ fn reject_size(sectors: u16) -> u64
     (pairs + 7) / 8
 }
 
-// A copy of the bytes.
-fn copied(alloc: Global, bytes: &[u8]) -> Result<Vec<u8>, Cause>
-    ensures bytes { IfOk result (λ v. v.items ≡ bytes.now) }
-    ensures memory { IsOkUnless result Cause.OutOfMemory }
-{
-    let mut copy = Vec::new(alloc);
-    match copy.extend_from_slice(bytes) {
-        Ok(()) => Ok(copy),
-        Err(_) => Err(Cause::OutOfMemory),
-    }
-}
-
-/// The bytes of REJECT: the given ones if they are enough for this many sectors, otherwise zeros.
-pub fn reject_over(alloc: Global, sectors: u16, given: &[u8]) -> Result<Vec<u8>, Cause>
-    ensures bytes { IfOk result (λ v. v.items ≡ reject_over sectors given.now) }
+/// A new REJECT of zeros; none if the given bytes are enough for this many sectors, and stay.
+pub fn new_reject(alloc: Global, sectors: u16, given: &[u8]) -> Result<Option<Vec<u8>>, Cause>
+    ensures bytes { IfOk result (λ new. option_map_or (λ v. v.items) new given.now
+        ≡ reject_over sectors given.now) }
     ensures memory { IsOkUnless result Cause.OutOfMemory }
 {
     if reject_size(sectors) <= given.len() as u64 {
-        return copied(alloc, given);
+        return Ok(None);
     }
     match reject(alloc, sectors) {
-        Ok(bytes) => Ok(bytes),
+        Ok(bytes) => Ok(Some(bytes)),
         Err(_) => Err(Cause::OutOfMemory),
     }
 }
@@ -76,12 +66,12 @@ pub fn reject_over(alloc: Global, sectors: u16, given: &[u8]) -> Result<Vec<u8>,
 pub fn lumps_of(
     alloc: Global,
     tree: &Built,
-    reject: Vec<u8>,
+    reject: Option<Vec<u8>>,
     blockmap: Vec<u8>,
     kept: Vec<KeptFault>,
 ) -> Result<MadeLumps, Cause>
     ensures records { IfOk result (HasRecords tree.now) }
-    ensures reject { IfOk result (λ m. m.reject.items ≡ reject.items) }
+    ensures reject { IfOk result (λ m. m.reject ≡ reject) }
     ensures blockmap { IfOk result (λ m. m.blockmap.items ≡ blockmap.items) }
     ensures kept { IfOk result (λ m. m.kept.items ≡ kept.items) }
     ensures memory { IsOkUnless result Cause.OutOfMemory }

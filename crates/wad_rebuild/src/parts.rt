@@ -4,6 +4,8 @@ ghost use Rattle.wad_levels.specs.Entries.{IsLevelAt};
 ghost use Rattle.wad_file.specs.Directory.{lump_count};
 ghost use Rattle.wad_file.specs.Placed.{AtHand};
 ghost use Rattle.wad_rebuild.specs.Held.{HasDirectory, at_hand, directory_of, kept_at, kept_between, part_of_entry, placed_after, placed_lumps, placed_up_to};
+ghost use Rattle.wad_levels.specs.Drawn.{level_lump};
+ghost use Rattle.wad_rebuild.specs.Made.{reject_of};
 ghost use Rattle.wad_rebuild.specs.Parts.{AddsPlaced, HasLumps, IsWithin, RefusesPut};
 ghost use Rattle.wad_rebuild.specs.Rebuilt.{ten_bytes, ten_lumps};
 
@@ -130,9 +132,18 @@ fn put_between<'a>(
     Ok(())
 }
 
+// The bytes of REJECT of a level that is built anew: a new one, or its own.
+fn reject_of<'a>(wad: &Wad<'a>, level: LevelEntries, made: &'a MadeLumps) -> &'a [u8]
+    ensures { result.now ≡ reject_of (level_lump wad.now level 8) made.now }
+{
+    match &made.reject {
+        Some(bytes) => bytes,
+        None => level_lump(wad, level, 8),
+    }
+}
+
 // The bytes of a lump of a level that is built anew, by its number in the order of `LUMP_NAMES`.
 fn made_lump<'a>(wad: &Wad<'a>, level: LevelEntries, made: &'a MadeLumps, n: usize) -> &'a [u8]
-    requires level { IsLevelAt wad.now level }
     requires number { n < 10 }
     ensures { result.now ≡ get_or (ten_bytes wad.now level made.now) n [] }
 {
@@ -141,7 +152,7 @@ fn made_lump<'a>(wad: &Wad<'a>, level: LevelEntries, made: &'a MadeLumps, n: usi
         4 => &made.segs,
         5 => &made.subs,
         6 => &made.nodes,
-        8 => &made.reject,
+        8 => reject_of(wad, level, made),
         9 => &made.blockmap,
         _ => level_lump(wad, level, n),
     }
@@ -155,7 +166,6 @@ fn put_ten<'a>(
     to: &mut BoundedWad<'a>,
 ) -> Result<(), RebuildError>
     requires wad { HasLumps wad.now }
-    requires level { IsLevelAt wad.now level }
     requires fits { IsWithin to.old }
     ensures { MatchResult result
         (λ _. AddsPlaced to.old to.new (map at_hand (ten_lumps wad.now level made.now)))

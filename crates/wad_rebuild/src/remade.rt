@@ -5,14 +5,13 @@ ghost use Rattle.tree_nodes.specs.Built.{IsBuiltOver};
 ghost use Rattle.tree_blocks.specs.Blocks.{ends_over};
 ghost use Rattle.tree_blocks.specs.Lump.{IsBlockmapOver};
 ghost use Rattle.wad_levels.specs.Drawn.{drawn_view};
-ghost use Rattle.wad_levels.specs.Entries.{IsLevelAt};
 ghost use Rattle.wad_rebuild.specs.Causes.{IsBlockmapCause, IsTreeCause};
 ghost use Rattle.wad_rebuild.specs.Remade.{IsLeftFor, IsMadeAnew, IsRemade, IsUnmade};
 
 use crate::cause::Cause;
 use crate::front::front_of;
 use crate::kept::kept_faults;
-use crate::made::{MadeLumps, lumps_of, reject_over};
+use crate::made::{MadeLumps, lumps_of, new_reject};
 use lump_records::{ITEM_LIMIT, Line, Side, Vertex};
 use std::alloc::Global;
 use tree_blocks::{BlockmapError, blockmap_over, ends_over};
@@ -42,7 +41,7 @@ fn tree_over(
     }
 }
 
-// The blockmap over the lines.
+// The blockmap over the lines, without spare room: it stays until the WAD is written.
 fn blocks_over(alloc: Global, front: &[Vertex], lines: &[Line]) -> Result<Vec<u8>, Cause>
     requires { length lines.now ≤ 32767 }
     ensures bytes { IfOk result (λ v. IsBlockmapOver (ends_over front.now lines.now) v.items) }
@@ -53,7 +52,10 @@ fn blocks_over(alloc: Global, front: &[Vertex], lines: &[Line]) -> Result<Vec<u8
         Err(_) => return Err(Cause::OutOfMemory),
     };
     match blockmap_over(alloc, &ends) {
-        Ok(bytes) => Ok(bytes),
+        Ok(mut bytes) => {
+            bytes.shrink_to_fit();
+            Ok(bytes)
+        }
         Err(BlockmapError::OutOfMemory) => Err(Cause::OutOfMemory),
         Err(error) => Err(Cause::NoBlockmap(error)),
     }
@@ -76,8 +78,8 @@ fn made_of(alloc: Global, drawn: Drawn) -> Result<MadeLumps, Cause>
         Ok(bytes) => bytes,
         Err(cause) => return Err(cause),
     };
-    let reject = match reject_over(alloc, sectors as u16, &drawn.reject) {
-        Ok(bytes) => bytes,
+    let reject = match new_reject(alloc, sectors as u16, &drawn.reject) {
+        Ok(reject) => reject,
         Err(_) => return Err(Cause::OutOfMemory),
     };
     let kept = match kept_faults(alloc, &drawn.lines) {
@@ -96,7 +98,6 @@ fn made_of(alloc: Global, drawn: Drawn) -> Result<MadeLumps, Cause>
 ///
 /// The first cause why the level is left as it was, or `OutOfMemory`.
 pub fn remake(alloc: Global, wad: &Wad<'_>, level: LevelEntries) -> Result<MadeLumps, Cause>
-    requires level { IsLevelAt wad.now level }
     ensures { MatchResult result (IsRemade wad.now level) (IsLeftFor wad.now level) }
 {
     let drawn = match read_drawn(alloc, wad, level) {

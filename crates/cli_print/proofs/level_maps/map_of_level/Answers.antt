@@ -24,5 +24,5 @@ map_ends wad l name d (Err e) none same refused = refused_level wad l name d e n
 
 pub returns-in-Ok : goal.returns-in-Ok
 returns-in-Ok c =
-    subst (λ (name : Name8). MatchResult c.import_drawn.result (IsMap c.args.wad.now c.args.level name) (RefusesLevelImport c.args.wad.now c.args.level name)) c.name-name.ensures
-    (map_ends c.args.wad.now c.args.level c.name-name.result (drawn_view c.in-Ok.drawn) c.import_drawn.result c.in-Ok.ensures.0 c.in-Ok.ensures.1 c.import_drawn.ensures)
+    subst (λ (name : Name8). MatchResult c.import_drawn.result (IsMap c.args.wad.now c.args.level name) (RefusesLevelImport c.args.wad.now c.args.level name)) c.level_name-name.ensures
+    (map_ends c.args.wad.now c.args.level c.level_name-name.result (drawn_view c.in-Ok.drawn) c.import_drawn.result c.in-Ok.ensures.0 c.in-Ok.ensures.1 c.import_drawn.ensures)

@@ -9,5 +9,5 @@ returns-in-Err-OutOfMemory g c =
 
 pub returns-in-Err : goal.returns-in-Err
 returns-in-Err g c =
-    refusal_told (wants_view c.args.wants) c.args.wad.now c.args.level c.count_no_map.result c.args.before c.name-name.result c.in-Err.error
-    (g.W.Write.contents c.args.writer.now) (g.W.Write.contents c.count_no_map.new.writer) c.name-name.ensures c.in-Err.ensures (search rules) c.count_no_map.ensures
+    refusal_told (wants_view c.args.wants) c.args.wad.now c.args.level c.count_no_map.result c.args.before c.level_name-name.result c.in-Err.error
+    (g.W.Write.contents c.args.writer.now) (g.W.Write.contents c.count_no_map.new.writer) c.level_name-name.ensures c.in-Err.ensures (search rules) c.count_no_map.ensures

@@ -7,4 +7,4 @@ use Rattle.wad_levels.proofs.entries.lump_entry.Given as goal
 abbrev pub invariant-loop-k : goal.invariant-loop-k
 invariant-loop-k l =
     lump_entry l.wad l.fn.level l.number
-    ≡ find (λ k. rank l.wad k == l.number) (range_with_len l.k (l.fn.level.lumps_end - l.k))
+    ≡ find (λ k. rank l.wad k == l.number) (range_with_len l.k (l.end - l.k))

@@ -1,4 +1,5 @@
-use Rattle.std.proofs.Common.{◌≡◌, ◌≤◌, ◌∙◌, ap, length, rules, arith}
+use Rattle.std.proofs.Common.{◌≡◌, ◌≤◌, ◌∙◌, ap, sym, length, rules, arith}
+use Rattle.std.specs.Option.{option_map_or}
 use Rattle.wad_levels.specs.Drawn.{drawn_view}
 use Rattle.wad_rebuild.specs.Kept.{kept_faults}
 use Rattle.wad_rebuild.specs.Remade.{reject_over}
@@ -27,8 +28,10 @@ pub returns-in-Ok-lumps_of : goal.returns-in-Ok-lumps_of
 returns-in-Ok-lumps_of c =
     let d = drawn_view c.args.drawn in
     let n : c.len-sectors.result ≡ length c.args.drawn.sectors.items = search rules in
-    let reject = c.in-Ok-lumps_of.ensures.reject ∙ (c.in-Ok-reject_over.ensures.bytes ∙ (ap (λ k. reject_over k c.deref-6.result.now) n
-    ∙ ap (reject_over (length d.sectors)) c.deref-6.ensures.value)) in
+    let own = c.deref-6.ensures.value in
+    let reject = ap (λ o. option_map_or (λ v. v.items) o d.reject) c.in-Ok-lumps_of.ensures.reject
+    ∙ ap (λ bytes. option_map_or (λ v. v.items) c.in-Ok-new_reject.reject bytes) (sym own) ∙ (c.in-Ok-new_reject.ensures.bytes ∙ (ap (λ k. reject_over k c.deref-6.result.now) n
+    ∙ ap (reject_over (length d.sectors)) own)) in
     let kept = c.in-Ok-lumps_of.ensures.kept ∙ (c.in-Ok-kept_faults.ensures.list ∙ ap kept_faults c.deref-7.ensures.value) in
     made_over d c.front_of-front.result.now c.deref-4.result.now c.deref-5.result.now c.in-Ok.tree c.in-Ok-lumps_of.made c.in-Ok-blocks_over.bytes.items
     (front_is d _ _ _ c.front_of-front.ensures c.deref.ensures.value c.deref-2.ensures.value) c.deref-4.ensures.value c.deref-5.ensures.value c.in-Ok-lumps_of.ensures.records c.in-Ok.ensures.built
