@@ -20,7 +20,7 @@ use cli_files::{Content, Hold, NotedFile, content_in};
 use cli_print::{Choice, Wanted};
 use cli_refusals::{Causes, Refusal};
 use cli_requests::{build, check, check_wad, dump, dump_wad, lint, lint_wad, picture, picture_wad};
-use cli_sources::WadReader;
+use cli_sources::{LumpsRead, WadReader};
 use std::io::Write;
 use std::os::unix::fs::FileExt;
 use std::rt::Files;
@@ -54,7 +54,7 @@ where
     let mut file = open_read(rt, path, why)?;
     match content_in(&file) {
         Ok(Content::Wad) => {
-            let mut reader = WadReader::of_level(rt.alloc(), &mut file.file, name);
+            let mut reader = WadReader::new(rt.alloc(), &mut file.file, LumpsRead::of_level(name));
             return check_wad(rt.alloc(), &mut reader, name, writer, &mut why.file);
         }
         Ok(Content::Text | Content::Picture) => return check_script(
@@ -106,7 +106,7 @@ where
     let mut file = open_read(rt, path, why)?;
     match content_in(&file) {
         Ok(Content::Wad) => {
-            let mut reader = WadReader::of_level(rt.alloc(), &mut file.file, name);
+            let mut reader = WadReader::new(rt.alloc(), &mut file.file, LumpsRead::of_levels(name));
             return lint_wad(rt, &mut reader, name, iwad, choice, writer, why);
         }
         Ok(Content::Text | Content::Picture) => {
@@ -159,7 +159,7 @@ where
     let mut file = open_read(rt, path, why)?;
     match content_in(&file) {
         Ok(Content::Wad) => {
-            let mut reader = WadReader::of_levels(rt.alloc(), &mut file.file, names);
+            let mut reader = WadReader::new(rt.alloc(), &mut file.file, LumpsRead::of_each(names));
             return dump_wad(
                 rt.alloc(),
                 &mut reader,
@@ -214,7 +214,11 @@ where
     let mut file = open_read(rt, path, why)?;
     match content_in(&file) {
         Ok(Content::Wad) => {
-            let mut reader = WadReader::of_level(rt.alloc(), &mut file.file, wanted.map);
+            let mut reader = WadReader::new(
+                rt.alloc(),
+                &mut file.file,
+                LumpsRead::of_level(wanted.map),
+            );
             return picture_wad(rt.alloc(), rt, &mut reader, wanted, writer, why);
         }
         Ok(Content::Text | Content::Picture) => return picture_script(

@@ -9,11 +9,13 @@ ghost use Rattle.wad_levels.specs.Listing.{listing_refusal};
 use cli_files::Cause;
 use cli_print::{TURNS, read_wad, write_shown};
 use cli_refusals::{DONE, Refusal};
+use cli_sources::{LumpsRead, WadReader};
 use lump_records::Name8;
 use run_edit::{EditorError, InspectError};
 use std::alloc::Global;
 use std::fs::{self, Files};
 use std::io::{Read, Write};
+use std::os::unix::fs::FileExt;
 use wad_levels::level_names;
 
 // Writes a name as a line.
@@ -85,19 +87,24 @@ fn list_read<R: Read, W: Write>(
     }
 }
 
-/// Writes the names of the levels of the WAD at the path, a line each, in the order of its directory,
-/// or notes why it can't be opened or read.
+/// Writes the names of the levels of the WAD at the path, a line each, in the order of its directory, which is all that
+/// it reads; or notes why it can't be opened or read.
 pub fn list_levels<E: AllocGlobal + Files, W: Write>(
     rt: &E,
     path: &str,
     writer: &mut W,
     why: &mut Option<Cause>,
 ) -> Result<u8, Refusal>
+where
+    E::File: FileExt,
     ensures small { IfOk result (λ s. s ≤ 3) }
     ensures listed { IsListed result (W.contents writer.old) (W.contents writer.new) }
 {
     match fs::open(rt, path) {
-        Ok(mut file) => list_read(rt.alloc(), &mut file, TURNS, writer, why),
+        Ok(mut file) => {
+            let mut reader = WadReader::new(rt.alloc(), &mut file, LumpsRead::Names);
+            list_read(rt.alloc(), &mut reader, TURNS, writer, why)
+        }
         Err(error) => {
             *why = Some(Cause::System(error));
             Err(Refusal::Lines(EditorError::ReaderFailed))

@@ -1,7 +1,7 @@
 use Rattle.std.proofs.Common.{◌∙◌, sym}
 use Rattle.wad_file.specs.Lumps.{Lump}
 use Rattle.cli_sources.proofs.Taking.{takes_on, takes_one}
-use Rattle.cli_sources.proofs.level_reader.put_lump.Goals as goal
+use Rattle.cli_sources.proofs.wad_reader.put_lump.Goals as goal
 
 pub push-requires : goal.push-requires
 push-requires g c =

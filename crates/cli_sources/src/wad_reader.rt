@@ -1,23 +1,23 @@
-//! A WAD in a file for a request over some of its levels, which reads no lump of another one.
+//! A WAD in a file for a request that needs some of its lumps, and reads no other.
 ghost use Rattle.std.specs.Prelude.{◌+◌, ◌≤◌, [], IfSome, length};
 ghost use Rattle.wad_file.specs.Drafts.{Takes};
 
+use crate::lumps_read::{LumpsRead, asked_in, is_asked};
 use std::alloc::Global;
 use std::fs::OpenFile;
 use std::io::{self, Read};
 use std::os::unix::fs::FileExt;
 use wad_file::{Entry, Wad, WadWriter, long_at};
-use wad_levels::{LevelEntries, last_called, levels_in};
 
 // The most bytes of a WAD.
 const MOST: u64 = 0xffff_ffff;
 
-/// The WAD in an open file as a request over some of its levels reads it.
+/// The WAD in an open file as a request reads it that needs some of its lumps.
 #[derive(Drop)]
 pub enum WadReader<'a, F> {
-    /// A WAD in memory with the names of all lumps of the file and the lumps of these levels; its other lumps are
-    /// empty. So many of its bytes are given.
-    Levels { bytes: Vec<u8>, given: usize },
+    /// A WAD in memory with the names of all lumps of the file and those lumps; its other lumps are empty. So many of
+    /// its bytes are given.
+    Lumps { bytes: Vec<u8>, given: usize },
     /// All bytes of the file.
     Whole(&'a mut F),
 }
@@ -38,7 +38,7 @@ fn give(bytes: &[u8], given: usize, into: &mut [u8]) -> usize
 impl<F: Read> Read for WadReader<'_, F> {
     fn read(&mut self, buf: &mut [u8]) -> io::Result<usize> {
         match self {
-            WadReader::Levels { bytes, given } => {
+            WadReader::Lumps { bytes, given } => {
                 if bytes.len() < *given {
                     return Ok(0);
                 }
@@ -85,18 +85,11 @@ fn entries_of<F: FileExt>(alloc: Global, file: &F, len: u64) -> Option<Vec<u8>> 
     Some(bytes)
 }
 
-// Whether the k-th entry is of a lump of one of the levels.
-fn is_asked(levels: &[LevelEntries], k: u32) -> bool {
-    levels
-        .iter()
-        .any(|level| level.marker < k && k < level.lumps_end)
-}
-
-// How many bytes the lumps of the levels have.
-fn size_of(wad: &Wad<'_>, levels: &[LevelEntries]) -> u64 {
+// How many bytes the lumps of the entries have that are asked for.
+fn size_of(wad: &Wad<'_>, asked: &[bool]) -> u64 {
     let mut sum: u64 = 0;
     for k in 0..wad.count() {
-        if is_asked(levels, k) {
+        if is_asked(asked, k) {
             sum = sum.saturating_add(u64::from(wad.entry(k).size));
         }
     }
@@ -133,7 +126,7 @@ fn put_lumps<F: FileExt>(
     file: &F,
     len: u64,
     wad: &Wad<'_>,
-    levels: &[LevelEntries],
+    asked: &[bool],
     writer: &mut WadWriter,
 ) -> Option<()>
     requires { Takes writer.old [] }
@@ -141,7 +134,7 @@ fn put_lumps<F: FileExt>(
 {
     for k in 0..wad.count() {
         let entry = wad.entry(k);
-        match put_lump(alloc, file, len, entry, is_asked(levels, k), writer) {
+        match put_lump(alloc, file, len, entry, is_asked(asked, k), writer) {
             Some(()) => {}
             None => return None,
         }
@@ -149,16 +142,16 @@ fn put_lumps<F: FileExt>(
     Some(())
 }
 
-// The WAD with the names of these entries and the lumps of the levels, in a file of `len` bytes.
+// The WAD with the names of these entries and the lumps that are asked for, in a file of `len` bytes.
 fn bytes_of<F: FileExt>(
     alloc: Global,
     file: &F,
     len: u64,
     wad: &Wad<'_>,
-    levels: &[LevelEntries],
+    asked: &[bool],
 ) -> Option<Vec<u8>> {
     let count = wad.count();
-    let size = size_of(wad, levels);
+    let size = size_of(wad, asked);
     if size > len {
         return None;
     }
@@ -167,7 +160,7 @@ fn bytes_of<F: FileExt>(
         Ok(writer) => writer,
         Err(_) => return None,
     };
-    match put_lumps(alloc, file, len, wad, levels, &mut writer) {
+    match put_lumps(alloc, file, len, wad, asked, &mut writer) {
         Some(()) => {}
         None => return None,
     }
@@ -177,60 +170,26 @@ fn bytes_of<F: FileExt>(
     }
 }
 
-// The last of the levels with each of the names.
-fn asked_in(alloc: Global, wad: &Wad<'_>, names: &[&str]) -> Option<Vec<LevelEntries>> {
-    let levels = match levels_in(alloc, wad) {
-        Ok(levels) => levels,
-        Err(_) => return None,
-    };
-    let mut asked = Vec::new(alloc);
-    for name in names {
-        if let Some(level) = last_called(wad, &levels, name.as_bytes()) {
-            asked.push(level).ok()?;
-        }
-    }
-    Some(asked)
-}
-
-// The WAD with the names of all lumps of the file and the lumps of the levels with these names.
-fn levels_of<F: FileExt + OpenFile>(alloc: Global, file: &F, names: &[&str]) -> Option<Vec<u8>> {
+// The WAD with the names of all lumps of the file and those lumps that a request reads.
+fn lumps_of<F: FileExt + OpenFile>(
+    alloc: Global,
+    file: &F,
+    reads: LumpsRead<'_>,
+) -> Option<Vec<u8>> {
     let len = length_of(file)?;
     let entries = entries_of(alloc, file, len)?;
     let wad = Wad::read(&entries).ok()?;
-    let asked = asked_in(alloc, &wad, names)?;
+    let asked = asked_in(alloc, &wad, reads)?;
     bytes_of(alloc, file, len, &wad, &asked)
 }
 
 impl<'a, F: FileExt + OpenFile> WadReader<'a, F> {
-    // Reads of the file the lumps of the levels with these names.
-    fn of(alloc: Global, file: &'a mut F, names: &[&str]) -> Self {
-        match levels_of(alloc, &*file, names) {
-            Some(bytes) => WadReader::Levels { bytes, given: 0 },
+    /// Reads of the file the lumps that a request reads. What can't be read so, since it isn't a regular file with a
+    /// WAD, or the lumps don't stand in it, or for lack of memory, is read whole.
+    pub fn new(alloc: Global, file: &'a mut F, reads: LumpsRead<'_>) -> Self {
+        match lumps_of(alloc, &*file, reads) {
+            Some(bytes) => WadReader::Lumps { bytes, given: 0 },
             None => WadReader::Whole(file),
-        }
-    }
-
-    /// Reads of the file the lumps of the level with the name, or all of it if there is none. What can't be read so,
-    /// since it isn't a regular file with a WAD, or the lumps don't stand in it, or for lack of memory, is read whole.
-    pub fn of_level(alloc: Global, file: &'a mut F, name: Option<&str>) -> Self {
-        match name {
-            Some(name) => WadReader::of(alloc, file, &[name]),
-            None => WadReader::Whole(file),
-        }
-    }
-
-    /// Does the same with the levels that have the names, or with all of the file if there are none.
-    pub fn of_levels(alloc: Global, file: &'a mut F, names: &[String]) -> Self {
-        if names.is_empty() {
-            return WadReader::Whole(file);
-        }
-        match names
-            .iter()
-            .map(|name| name.as_str())
-            .collect::<Vec<&str>>(alloc)
-        {
-            Ok(names) => WadReader::of(alloc, file, &names),
-            Err(_) => WadReader::Whole(file),
         }
     }
 }
