@@ -1,10 +1,10 @@
 //! Projects that lines draw.
 
-use crate::rows::meant;
 use map_commands::{apply, parse};
 use map_tables::Maps;
 use std::alloc::Global;
 use std::test::Fail;
+use tests_rows::meant;
 
 /// The length of the longest body of a project with one map, in bytes.
 pub const AMPLE: u32 = 2_007_002;

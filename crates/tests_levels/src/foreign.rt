@@ -1,9 +1,9 @@
 //! Levels in WADs of other editors: how they are found, and what prevents a build.
 
-use crate::rows::expect_rows;
 use crate::wads::wad_of;
 use std::alloc::Global;
 use std::test::Fail;
+use tests_rows::expect_rows;
 use wad_levels::{LevelForm, levels_in, read_drawn, read_wad};
 
 // The names of a directory's entries; and for each level its marker, the end of its lumps, the end of the GL lumps of

@@ -1,12 +1,12 @@
 //! A WAD's flats and textures.
 
-use crate::rows::{expect_rows, number, part, said};
 use crate::wads::{bytes_of, wad_of};
 use lump_records::Name8;
 use lump_textures::Texture;
 use std::alloc::Global;
 use std::io::Write;
 use std::test::Fail;
+use tests_rows::{expect_rows, number, part, said};
 use wad_levels::graphics_in;
 
 // TWO is TEXTURE1 with two textures, at offsets 12 and 34, of 72 and of 128 rows. The second name is in small letters,

@@ -1,11 +1,11 @@
 //! Maps made of levels of other editors: what is changed, and why a level can't be made a map.
 
-use crate::rows::{expect_rows, part};
 use crate::wads::wad_of;
 use lump_records::Name8;
 use map_tables::{Kind, Map};
 use std::alloc::Global;
 use std::test::Fail;
+use tests_rows::{expect_rows, part};
 use wad_import::{Imported, import_level};
 use wad_levels::{levels_in, read_wad};
 

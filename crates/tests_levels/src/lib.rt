@@ -24,8 +24,6 @@ mod pwad;
 #[cfg(test)]
 mod rebuilt;
 #[cfg(test)]
-mod rows;
-#[cfg(test)]
 mod segs;
 #[cfg(test)]
 mod tangle;

@@ -1,10 +1,10 @@
 //! Trees and blockmaps of lines that no map of ours may have: two vertices at one place, vertices that no line uses,
 //! two lines between the same places, more vertices or lines than there are numbers.
 
-use crate::rows::{expect_rows, number, part, said};
 use lump_records::{Line, NO_SIDE, Name8, Seg, Side, Vertex};
 use std::alloc::Global;
 use std::test::Fail;
+use tests_rows::{expect_rows, number, part, said};
 use tree_blocks::{blockmap_over, ends_over};
 use tree_nodes::{Built, TreeError, build_lines};
 use tree_pieces::edges_in;

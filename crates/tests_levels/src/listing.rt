@@ -1,10 +1,10 @@
 //! The names of a WAD's levels.
 
 use crate::drawing::drawn;
-use crate::rows::{expect_rows, said};
 use crate::wads::bytes_of;
 use std::alloc::Global;
 use std::test::Fail;
+use tests_rows::{expect_rows, said};
 use wad_build::{build_all, level_names};
 
 // The names of the levels of all maps that the lines draw, as they stand in the directory.

@@ -1,11 +1,11 @@
 //! The trees of drawn maps: worked examples, and a row of rooms.
 
 use crate::drawing::{draw_lines, drawn};
-use crate::rows::{expect_rows, number, said};
 use lump_records::{Seg, encode_nodes, encode_segs, encode_subs, encode_vertices};
 use map_tables::{Kind, Map, Maps};
 use std::alloc::Global;
 use std::test::Fail;
+use tests_rows::{expect_rows, number, said};
 use tree_nodes::{Built, TreeError, build_tree};
 
 // The tree of the map that the lines draw.

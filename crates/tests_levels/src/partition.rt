@@ -1,21 +1,17 @@
 //! The choice of a partition: worked examples, and the same choice by brute force.
 
-ghost use Rattle.std.specs.Prelude.{◌≡◌, ◌<◌, length, All};
-ghost use Rattle.tree_pieces.specs.Edges.{edges_of};
-ghost use Rattle.tree_pieces.specs.Pieces.{IsPiece};
-
 use crate::drawing::drawn;
 use crate::expect::{holds, same};
-use crate::rows::{expect_rows, said};
 use crate::tangle::{Sequence, draw_tangle};
 use map_tables::Map;
 use std::alloc::Global;
 use std::process::Abort;
 use std::test::Fail;
+use tests_rows::{expect_rows, said};
 use tree_choice::{
     Choice, StraightLines, blocks_of, by_place, choose, choose_in_boxes, choose_ordered, separates,
 };
-use tree_pieces::{Piece, boxes_in, divide, edges_of, pieces_of};
+use tree_pieces::{boxes_in, divide, edges_of, pieces_of};
 
 // The choice among a map's whole sides, if these lines are used. All three calls and brute force make the same choice.
 fn chosen(
@@ -36,7 +32,7 @@ fn chosen(
     let by_boxes = choose_in_boxes(&edges, &pieces, &boxes, &blocks, used, &mut straight);
     same(rt, &choice, &by_boxes);
     same(rt, &choice, &chosen_by_place(rt, alloc, map, used)?);
-    same(rt, &choice, &walked(map, &pieces, used));
+    same(rt, &choice, &walked(alloc, map, used)?);
     Ok(choice)
 }
 
@@ -68,48 +64,34 @@ fn chosen_by_place(
     Ok(choice)
 }
 
-// How many pieces a partition splits, and how many parts it has on its right and on its left. `at` isn't set.
-fn counted(map: &Map, partition: &Piece, pieces: &[Piece]) -> Choice
-    requires partition { IsPiece (edges_of map.now.tables) partition.now }
-    requires pieces { All (IsPiece (edges_of map.now.tables)) pieces.now }
-{
-    let mut counts = Choice {
-        at: 0,
-        splits: 0,
-        right: 0,
-        left: 0,
-    };
-    for piece in pieces {
-        let parts = divide(map, partition, piece);
-        let right = u32::from(parts.right.is_some());
-        let left = u32::from(parts.left.is_some());
-        counts.right = counts.right.wrapping_add(right);
-        counts.left = counts.left.wrapping_add(left);
-        counts.splits = counts.splits.wrapping_add(u32::from(right + left == 2));
-    }
-    counts
-}
-
 // The choice by brute force: it counts all pieces for each candidate.
-fn walked(map: &Map, pieces: &[Piece], used: &[bool]) -> Option<Choice>
-    requires { All (IsPiece (edges_of map.now.tables)) pieces.now }
-{
+fn walked(alloc: Global, map: &Map, used: &[bool]) -> Result<Option<Choice>, Fail> {
+    let pieces = pieces_of(alloc, map)?;
     let mut best: Option<Choice> = None;
     let mut least = u32::MAX;
     for (at, partition) in pieces.iter().enumerate() {
-        let counts = counted(map, partition, pieces);
-        let cost = counts
-            .splits
-            .wrapping_mul(8)
-            .wrapping_add(counts.right.abs_diff(counts.left));
+        let (mut splits, mut right, mut left) = (0_u32, 0_u32, 0_u32);
+        for piece in &pieces {
+            let parts = divide(map, partition, piece);
+            right = right.wrapping_add(u32::from(parts.right.is_some()));
+            left = left.wrapping_add(u32::from(parts.left.is_some()));
+            let both = parts.right.is_some() && parts.left.is_some();
+            splits = splits.wrapping_add(u32::from(both));
+        }
+        let cost = splits.wrapping_mul(8).wrapping_add(right.abs_diff(left));
         let is_used = used.get(partition.line as usize).copied().unwrap_or(true);
-        if !is_used && counts.left > 0 && cost < least {
+        if !is_used && left > 0 && cost < least {
             least = cost;
             let at = u32::try_from(at).unwrap_or(u32::MAX);
-            best = Some(Choice { at, ..counts });
+            best = Some(Choice {
+                at,
+                splits,
+                right,
+                left,
+            });
         }
     }
-    best
+    Ok(best)
 }
 
 // Which of a map's lines are used, a digit for each, and the lines that draw it; and the choice as `at`, `splits`,

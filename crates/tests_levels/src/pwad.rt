@@ -1,12 +1,12 @@
 //! Drawn maps built into PWADs: worked examples, what is read back from their bytes, and faults in changed bytes.
 
 use crate::drawing::drawn;
-use crate::rows::{expect_rows, number, said};
 use crate::wads::bytes_of;
 use lump_records::Vertex;
 use map_tables::{Map, Maps};
 use std::alloc::Global;
 use std::test::Fail;
+use tests_rows::{expect_rows, number, said};
 use tree_blocks::{blockmap, touches};
 use wad_build::{
     Fault, ReadError, Unbuilt, audit, build_all, build_counted, build_wad, read_level, reject,

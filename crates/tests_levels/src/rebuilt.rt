@@ -1,9 +1,9 @@
 //! Levels in WADs of other editors, built anew: the bytes of worked levels, and why a level stays as it was.
 
-use crate::rows::{expect_rows, meant, part};
 use crate::wads::{bytes_of, wad_of};
 use std::alloc::Global;
 use std::test::Fail;
+use tests_rows::{expect_rows, meant, part};
 use wad_levels::{levels_in, read_wad};
 use wad_rebuild::{Fate, KeptFault, MadeLumps, RebuiltLevel, rebuild_wad, remake};
 
@@ -25,11 +25,11 @@ const VALUES: &str = "LINES|0 1 1 0 0 0 65535\n\
     SUBS|1 0\n\
     BLOCKS|0 0 1 1 5 0 0 65535";
 
-// LINEDEFS and REJECT of a level; and SEGS and REJECT after it is built anew, then VERTEXES, SSECTORS, NODES and
-// BLOCKMAP, as bytes; or why it can't be.
-const REMADE: &str = "LINES;REJECT|[0, 0, 1, 0, 0, 0, 0, 0, 0, 0, 0, 0] [0] \
+// LINEDEFS and REJECT of a level; and SEGS and REJECT (`None`: its own stays) after it is built anew, then VERTEXES,
+// SSECTORS, NODES and BLOCKMAP, as bytes; or why it can't be.
+const REMADE: &str = "LINES;REJECT|[0, 0, 1, 0, 0, 0, 0, 0, 0, 0, 0, 0] Some([0]) \
     [0, 0, 0, 0, 64, 0, 0, 0] [1, 0, 0, 0] [] [0, 0, 0, 0, 1, 0, 1, 0, 5, 0, 0, 0, 0, 0, 255, 255]\n\
-    TURNED;REJECT '\x01more|[1, 0, 0, 0, 0, 128, 0, 0, 0, 0, 0, 0] [1, 109, 111, 114, 101] \
+    TURNED;REJECT '\x01more|[1, 0, 0, 0, 0, 128, 0, 0, 0, 0, 0, 0] None \
     [0, 0, 0, 0, 64, 0, 0, 0] [1, 0, 0, 0] [] [0, 0, 0, 0, 1, 0, 1, 0, 5, 0, 0, 0, 0, 0, 255, 255]\n\
     BARE;REJECT|line 0 has no right side";
 

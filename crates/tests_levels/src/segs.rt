@@ -1,20 +1,16 @@
 //! Angles, points and offsets; pieces that are cut, and their boxes; numbered places.
 
-ghost use Rattle.std.specs.Prelude.{◌<◌, length, All};
-ghost use Rattle.tree_pieces.specs.Pieces.{IsPiece};
-ghost use Rattle.tree_pieces.specs.Edges.{edges_of};
-
 use crate::drawing::drawn;
 use crate::expect::same;
-use crate::rows::{expect_rows, number, said};
 use lump_records::{Bounds, Vertex};
 use map_tables::Map;
 use std::alloc::Global;
 use std::process::Abort;
 use std::test::Fail;
+use tests_rows::{expect_rows, number, said};
 use tree_pieces::{
-    Facing, Frac, Parts, Piece, Place, Points, SegsError, angle16, boxes_in, divide, edges_of,
-    offset, pieces_of, point, side_of,
+    Facing, Frac, Piece, Points, SegsError, angle16, boxes_in, divide, edges_of, offset, pieces_of,
+    point, side_of,
 };
 
 // Vectors and their angles. Those of the longest diagonals are exact; close to an axis the last bit decides.
@@ -102,28 +98,16 @@ fn fields(piece: Option<Piece>) -> Option<Fields> {
     Some((piece.line, piece.side, fractions))
 }
 
-// How the piece `at` of a list lies to the piece `by`, and its parts.
-fn parts(map: &Map, pieces: &[Piece], at: usize, by: usize) -> (Place, Parts)
-    requires pieces { All (IsPiece (edges_of map.now.tables)) pieces.now }
-    requires at { at < length pieces.now }
-    requires by { by < length pieces.now }
-{
-    let partition = pieces[by];
-    let piece = pieces[at];
-    (
-        side_of(map, &partition, &piece),
-        divide(map, &partition, &piece),
-    )
-}
-
 // How the piece `at` of a map lies to the piece `by`, and its parts.
 fn cut(alloc: Global, map: &Map, at: usize, by: usize) -> Result<String, Fail> {
     let pieces = pieces_of(alloc, map)?;
-    if at < pieces.len() && by < pieces.len() {
-        let (place, parts) = parts(map, &pieces, at, by);
-        return said(alloc, &(place, [fields(parts.right), fields(parts.left)]));
+    if at >= pieces.len() || by >= pieces.len() {
+        return Err(Fail::from("no such piece"));
     }
-    Err(Fail::from("no such piece"))
+    let (partition, piece) = (pieces[by], pieces[at]);
+    let place = side_of(map, &partition, &piece);
+    let parts = divide(map, &partition, &piece);
+    said(alloc, &(place, [fields(parts.right), fields(parts.left)]))
 }
 
 // The same of a row.

@@ -1,8 +1,8 @@
 //! WADs that texts stand for.
 
-use crate::rows::{meant, part};
 use std::alloc::Global;
 use std::test::Fail;
+use tests_rows::{meant, part};
 
 // A number as 32 bits, little-endian.
 fn long(n: usize) -> [u8; 4] {

@@ -2,10 +2,10 @@
 
 use crate::drawing::drawn;
 use crate::maps::{TWO_MAPS, is_refused};
-use crate::rows::{expect_rows, said};
 use map_tables::Maps;
 use std::alloc::Global;
 use std::test::Fail;
+use tests_rows::{expect_rows, said};
 
 // The body of a map with two vertices and one item of each other kind.
 const BODY: [u8; 108] =

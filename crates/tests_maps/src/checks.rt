@@ -1,10 +1,10 @@
 //! The findings of drawn maps.
 
 use crate::drawing::drawn;
-use crate::rows::{expect_rows, expect_text, said};
 use map_checks::check;
 use std::alloc::Global;
 use std::test::Fail;
+use tests_rows::{expect_rows, expect_text, said};
 
 // Lines that draw a map, and its findings, each ended by `;`. The third one is a room with an unused vertex, an unused
 // side and an unused sector, without one of its lines, and with one wall that has no texture.

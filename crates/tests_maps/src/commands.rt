@@ -1,9 +1,9 @@
 //! Lines that are commands, and lines that aren't.
 
-use crate::rows::{expect_rows, expect_text, halves};
 use map_commands::{parse, print};
 use std::alloc::{AllocError, Global};
 use std::test::Fail;
+use tests_rows::{expect_rows, expect_text, halves};
 
 // 0 for a line that is a command and is printed as it was read, 999 if it is printed differently, else the refusal's
 // code.

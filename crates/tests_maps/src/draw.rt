@@ -1,7 +1,6 @@
 //! Scripts: how their lines are cleaned, and how the names in them are resolved.
 
 use crate::drawing::{AMPLE, answer};
-use crate::rows::{expect_rows, expect_text, halves};
 use map_commands::parse;
 use map_script::{
     Names, Numbers, defined_name, firsts_of, give_words, referent_of, resolve, script_lines,
@@ -10,6 +9,7 @@ use map_tables::{Map, Maps};
 use std::alloc::Global;
 use std::str::from_utf8;
 use std::test::Fail;
+use tests_rows::{expect_rows, expect_text, halves};
 
 // A script with every kind of white space, comments, and a `#` within a word, which begins no comment.
 const SCRIPT: &[u8] =

@@ -29,7 +29,6 @@ mod maps;
 mod maptables;
 #[cfg(test)]
 mod picture;
-pub mod rows;
 #[cfg(test)]
 mod shapes;
 #[cfg(test)]

@@ -1,11 +1,11 @@
 //! Lines with their answers: several maps, and tables at their limits.
 
 use crate::drawing::{AMPLE, answer, drawn};
-use crate::rows::{expect_rows, expect_text, halves, said};
 use map_commands::{CommandError, commit, parse, ready};
 use map_tables::{Kind, Maps};
 use std::alloc::Global;
 use std::test::Fail;
+use tests_rows::{expect_rows, expect_text, halves, said};
 
 // How long the body may be, and lines with their answers; then how many maps there are, which is current, and how long
 // the body is. First come two maps with a room each; then the first of them is dropped. A body has 18 bytes for each

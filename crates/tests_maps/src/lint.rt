@@ -1,11 +1,11 @@
 //! The warnings of drawn maps.
 
 use crate::drawing::{draw, drawn};
-use crate::rows::{expect_text, halves, said};
 use map_lint::lint;
 use map_tables::Map;
 use std::alloc::Global;
 use std::test::Fail;
+use tests_rows::{expect_text, halves, said};
 
 // The warnings as text, each ended by `;`.
 pub fn report(alloc: Global, map: &Map) -> Result<String, Fail> {

@@ -1,7 +1,6 @@
 //! Records encoded to bytes and decoded again, one by one and in lists, and the sides of a line.
 
 use crate::expect::{holds, same};
-use crate::rows::{expect_rows, said};
 use lump_records::{
     Bounds, Line, LumpError, Name8, Node, Point, Ray, Sector, Seg, Side, Sub, Thing, Vertex,
     decode_lines, decode_nodes, decode_sectors, decode_segs, decode_sides, decode_subs,
@@ -13,6 +12,7 @@ use std::alloc::Global;
 use std::fmt::Debug;
 use std::process::Abort;
 use std::test::Fail;
+use tests_rows::{expect_rows, said};
 
 const NO_SIDE: u16 = 0xffff;
 

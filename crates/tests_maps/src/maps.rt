@@ -1,11 +1,11 @@
 //! The maps of a project, and the bytes of their body.
 
 use crate::expect::same;
-use crate::rows::{expect_rows, said};
 use lump_records::Name8;
 use map_tables::{MapError, Maps};
 use std::alloc::{AllocError, Global};
 use std::test::Fail;
+use tests_rows::{expect_rows, said};
 
 const MAP01: Name8 = Name8 {
     bytes: *b"MAP01\0\0\0",

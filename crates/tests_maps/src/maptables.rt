@@ -2,11 +2,11 @@
 
 use crate::drawing::{draw, drawn};
 use crate::expect::same;
-use crate::rows::{expect_rows, expect_text, halves, said};
 use lump_records::Vertex;
 use map_tables::{Kind, Map, MapError, Maps, is_marker, is_name, squared_distance};
 use std::alloc::Global;
 use std::test::Fail;
+use tests_rows::{expect_rows, expect_text, halves, said};
 
 const KINDS: &[Kind] = &[
     Kind::Vertex,

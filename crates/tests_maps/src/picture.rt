@@ -2,7 +2,6 @@
 
 use crate::drawing::drawn;
 use crate::expect::same;
-use crate::rows::expect_text;
 use lump_records::{Bounds, Node, Seg, Sub, Vertex};
 use lump_text::WriterFailed;
 use map_picture::{PictureError, PictureOptions, STYLE, write_picture};
@@ -11,6 +10,7 @@ use std::alloc::Global;
 use std::io;
 use std::io::Write;
 use std::test::Fail;
+use tests_rows::expect_text;
 
 // A room of 128 by 128 with a player's start that faces north.
 const DRAWING: &str = "name E1M1;ROOM;thing 64 64 90 1 7";

@@ -3,12 +3,12 @@ ghost use Rattle.std.specs.Prelude.{All, IfOk};
 ghost use Rattle.map_commands.specs.Step.{InRange};
 
 use crate::drawing::drawn;
-use crate::rows::expect_rows;
 use map_commands::{Command, ProjectCommand, print};
 use map_shapes::{ShapeError, commands_of, read_shape};
 use map_tables::Map;
 use std::alloc::Global;
 use std::test::Fail;
+use tests_rows::expect_rows;
 
 // A hall, a cell and a door between them: sectors 0, 1 and 2. Lines 0 and 1 have the door on their left and on their
 // right, lines 2 and 3 are its walls; line 4 is a step within the door, line 5 shows side 2 of line 2 too.

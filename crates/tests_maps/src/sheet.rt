@@ -1,11 +1,11 @@
 //! The pictures of worked maps with heights, a grid and a crop, and how large their numbers are.
 
 use crate::picture::{expect_end, expect_part, expect_parts, picture, plain};
-use crate::rows::halves;
 use lump_records::Bounds;
 use map_picture::{PictureOptions, SHEET_STYLE, STYLE};
 use std::alloc::Global;
 use std::test::Fail;
+use tests_rows::halves;
 
 // A room of 128 by 128 at the height 0, and a line of a sector at the height 100, which isn't closed.
 const DRAWING: &str =

@@ -2,10 +2,10 @@
 
 use crate::drawing::{draw, draw_lines, drawn};
 use crate::lint::{expect_reports, report};
-use crate::rows::expect_rows;
 use map_tables::Maps;
 use std::alloc::Global;
 use std::test::Fail;
+use tests_rows::expect_rows;
 
 // Two rooms, and a third one to the west of the first, behind line 0.
 const WEST: &str =

@@ -1,12 +1,12 @@
 //! What a WAD's flats and textures lack for a map.
 
 use crate::drawing::drawn;
-use crate::rows::expect_rows;
 use lump_records::Name8;
 use lump_textures::Texture;
 use map_lint::lint_graphics;
 use std::alloc::Global;
 use std::test::Fail;
+use tests_rows::expect_rows;
 
 const FLOOR: Name8 = Name8 {
     bytes: *b"FLOOR4_8",

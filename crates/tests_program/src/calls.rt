@@ -4,7 +4,7 @@ use cli_program::perform;
 use cli_words::request;
 use std::io::Write;
 use std::test::Fail;
-use tests_runs::rows::{expect_text, part};
+use tests_rows::{expect_text, part};
 
 /// Calls the program with these arguments and this input: its status, and its standard error.
 pub fn status_of<W: Write>(

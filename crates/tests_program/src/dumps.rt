@@ -5,7 +5,7 @@ use crate::wads::{START_AT, cut_wad, wad_of};
 use cli_words::{RequestError, request};
 use std::fs;
 use std::test::Fail;
-use tests_runs::rows::{expect_text, meant, part};
+use tests_rows::{expect_text, part, script_meant};
 
 // A room without a thing, one with a player's start at an angle of 360, and one whose LINEDEFS are cut off.
 const LEVELS: &str = "MAP01;E1M1 start;E1M2 start cut";
@@ -67,8 +67,8 @@ fn expect_call(rt: &HostRuntime, row: &str) -> Result<(), Fail> {
     let status = part(&mut left, '~');
     let mut second = part(&mut left, '~');
     let faults = part(&mut left, '~');
-    let first = meant(DRAWN, part(&mut second, ' '));
-    let second = meant(DRAWN, second);
+    let first = script_meant(DRAWN, part(&mut second, ' '));
+    let second = script_meant(DRAWN, second);
     let found = called(rt, words, b"")?;
     let wanted = format!(in rt.alloc(); "{status}~{first}{second}~{faults}")?;
     expect_text(row, found.as_str(), wanted.as_str())

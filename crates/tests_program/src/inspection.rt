@@ -5,7 +5,7 @@ use run_edit::{InspectError, inspect};
 use std::alloc::{AllocError, Global};
 use std::fs;
 use std::test::Fail;
-use tests_runs::rows::{expect_text, halves};
+use tests_rows::{expect_text, script_halves};
 use wad_build::ReadError;
 
 // The WAD of the room from (0,0) to (128,128) as MAP01: lines, sides, vertices, segs, one subsector, one sector,
@@ -81,7 +81,7 @@ fn tells_nothing_of_no_level(rt: HostRuntime) {
 
 // The room with the byte of a row changed isn't sound, and the output ends as the row says.
 fn expect_changed(alloc: Global, row: &str) -> Result<(), Fail> {
-    let (asked, end) = halves(row);
+    let (asked, end) = script_halves(row);
     let (place, value) = asked.split_once(' ').unwrap_or((asked, ""));
     let wad = changed(alloc, place.parse()?, value.parse()?)?;
     let (sound, out) = told(alloc, &wad)?;

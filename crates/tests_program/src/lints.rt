@@ -4,7 +4,7 @@ use crate::calls::{called, expect_calls, performed};
 use cli_words::{RequestError, request};
 use std::fs;
 use std::test::Fail;
-use tests_runs::rows::{expect_rows, expect_text};
+use tests_rows::{expect_scripts, expect_text};
 
 // The lines that draw a project, and the status, the output and the standard error of `lint`. In a room with a start
 // and the brain of a boss, whose death ends the level, it finds nothing. A vertex without a line is a finding; a thing
@@ -36,7 +36,7 @@ fn linted(rt: &HostRuntime, lines: &str) -> Result<String, Fail> {
 
 #[test]
 fn says_what_is_found_in_each_map(rt: HostRuntime) -> Result<(), Fail> {
-    expect_rows(rt.alloc(), ROWS, |_, lines| linted(&rt, lines))?;
+    expect_scripts(rt.alloc(), ROWS, |_, lines| linted(&rt, lines))?;
     fs::remove_file(&rt, "leveled_lints_file")?;
     Ok(())
 }

@@ -6,7 +6,7 @@ use map_picture::STYLE;
 use std::alloc::Global;
 use std::fs;
 use std::test::Fail;
-use tests_runs::rows::{expect_rows, expect_text, part, said};
+use tests_rows::{expect_scripts, expect_text, part, said};
 
 // A map with one vertex, and an empty one, which is current.
 const LINES: &[u8] = b"vertex 0 0\nmap E1M1\n";
@@ -163,7 +163,7 @@ fn refused_box(alloc: Global, text: &str) -> Result<String, Fail> {
 
 #[test]
 fn reads_boxes(rt: HostRuntime) -> Result<(), Fail> {
-    expect_rows(rt.alloc(), BOXES, |alloc, word| {
+    expect_scripts(rt.alloc(), BOXES, |alloc, word| {
         asked_box(alloc, &["leveled", "picture", "f", word])
     })?;
     let none = asked_box(rt.alloc(), &["leveled", "picture", "f"])?;

@@ -5,7 +5,7 @@ use crate::expect::same;
 use std::fs;
 use std::test::Fail;
 use store_disk::{Disk, FileDisk};
-use tests_runs::rows::{expect_text, halves};
+use tests_rows::{expect_text, script_halves};
 use tests_runs::streams::Narrow;
 
 // Calls over a file, which isn't there at first.
@@ -102,7 +102,7 @@ fn damage(rt: &HostRuntime, at: u64, bytes: &[u8]) -> Result<(), Fail> {
 
 // Damages the file as a row says, and calls `edit`, which prints nothing but the row's words to standard error.
 fn expect_damage(rt: &HostRuntime, row: &str) -> Result<(), Fail> {
-    let (asked, wanted) = halves(row);
+    let (asked, wanted) = script_halves(row);
     let (at, bytes) = asked.split_once(' ').unwrap_or((asked, ""));
     damage(rt, at.parse()?, bytes.as_bytes())?;
     let found = called(rt, "edit leveled_project_run_damaged", b"vertex 1 1")?;

@@ -3,7 +3,7 @@
 use crate::calls::{expect_calls, performed};
 use std::fs;
 use std::test::Fail;
-use tests_runs::rows::halves;
+use tests_rows::script_halves;
 
 // The files of scripts, and their texts. In turn: one whose third line is refused; one of which three lines are
 // refused, the second only for lack of a name; one that is a map with a vertex, and doesn't end with LF; one that
@@ -91,7 +91,7 @@ fn make_files(rt: &HostRuntime) -> Result<(), Fail> {
     let _ = fs::remove_file(rt, "leveled_scripts_missing");
     let _ = performed(rt, "create leveled_scripts_file", b"")?;
     for row in SCRIPTS.split('^') {
-        let (name, text) = halves(row);
+        let (name, text) = script_halves(row);
         fs::write(rt, name, text.as_bytes())?;
     }
     Ok(())
@@ -100,7 +100,7 @@ fn make_files(rt: &HostRuntime) -> Result<(), Fail> {
 // Removes them.
 fn remove_files(rt: &HostRuntime) -> Result<(), Fail> {
     for row in SCRIPTS.split('^') {
-        let (name, _) = halves(row);
+        let (name, _) = script_halves(row);
         fs::remove_file(rt, name)?;
     }
     fs::remove_file(rt, "leveled_scripts_file")?;

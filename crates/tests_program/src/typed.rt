@@ -4,7 +4,7 @@ use cli_program::perform_typed;
 use cli_words::Request;
 use std::io::{Read, Write};
 use std::test::Fail;
-use tests_runs::rows::{expect_text, halves};
+use tests_rows::{expect_text, script_halves};
 use tests_runs::streams::{Drip, Held, Narrow};
 
 // What is typed, what standard output has then, and what standard error.
@@ -58,7 +58,7 @@ fn expect_session<R: Read>(
     reader: &mut R,
     wanted: &str,
 ) -> Result<(), Fail> {
-    let (answers, said) = halves(wanted);
+    let (answers, said) = script_halves(wanted);
     let (status, out) = written(rt, reader, said.as_bytes())?;
     if status == 0 && out.as_slice() == answers.as_bytes() {
         return Ok(());
@@ -68,7 +68,7 @@ fn expect_session<R: Read>(
 
 // What is typed in a row is answered as it says, pasted and byte by byte.
 fn expect_typed(rt: &HostRuntime, row: &str) -> Result<(), Fail> {
-    let (lines, wanted) = halves(row);
+    let (lines, wanted) = script_halves(row);
     let mut reader = lines.as_bytes();
     expect_session(rt, row, &mut reader, wanted)?;
     expect_session(rt, row, &mut Drip::of(lines.as_bytes(), false), wanted)

@@ -6,7 +6,7 @@ use crate::inspection::ROOM_WAD;
 use std::alloc::Global;
 use std::fs;
 use std::test::Fail;
-use tests_runs::rows::part;
+use tests_rows::part;
 
 // The levels of the WAD, which `;` divides: the name of each, `start` if it has a player's start, and `cut` if the last
 // byte of its LINEDEFS is cut off. Two levels are called MAP01. The last one counts.

@@ -3,7 +3,7 @@
 use cli_words::{Request, RequestError, Topic, request};
 use std::alloc::Global;
 use std::test::Fail;
-use tests_runs::rows::{expect_rows, expect_text, halves, said};
+use tests_rows::{expect_scripts, expect_text, said, script_halves};
 
 #[test]
 fn reads_a_request(rt: HostRuntime) {
@@ -44,7 +44,7 @@ fn answered_by_clap(alloc: Global, words: &[&str]) -> Result<(i32, String), Fail
 
 // Clap answers as a row says.
 fn expect_answer(alloc: Global, row: &str) -> Result<(), Fail> {
-    let (asked, wanted) = halves(row);
+    let (asked, wanted) = script_halves(row);
     let (wanted_status, part) = wanted.split_once(' ').unwrap_or((wanted, ""));
     let (status, text) = answered_by_clap(alloc, &split(alloc, asked)?)?;
     if status == wanted_status.parse::<i32>()? && text.as_str().contains(part) {
@@ -98,5 +98,5 @@ fn refused_length(alloc: Global, row: &str) -> Result<String, Fail> {
 
 #[test]
 fn reads_lengths_within_their_limits(rt: HostRuntime) -> Result<(), Fail> {
-    expect_rows(rt.alloc(), LENGTHS, refused_length)
+    expect_scripts(rt.alloc(), LENGTHS, refused_length)
 }

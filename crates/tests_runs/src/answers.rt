@@ -1,8 +1,8 @@
 //! Lines over maps in memory, and their answers.
 
 use crate::editor::answered;
-use crate::rows::expect_rows;
 use std::test::Fail;
+use tests_rows::expect_scripts;
 
 // What is tested, on a line of its own, lines, and their answers.
 const MAPS: &str = "\
@@ -66,5 +66,5 @@ const MAPS: &str = "\
 
 #[test]
 fn answers_maps(rt: HostRuntime) -> Result<(), Fail> {
-    expect_rows(rt.alloc(), MAPS, answered)
+    expect_scripts(rt.alloc(), MAPS, answered)
 }

@@ -1,8 +1,8 @@
 //! The queries `build`, `hex` and `maps` over drawn maps.
 
 use crate::editor::answered;
-use crate::rows::expect_rows;
 use std::test::Fail;
+use tests_rows::expect_scripts;
 
 // What is tested, on a line of its own, lines, and their answers.
 const BUILDS: &str = "\
@@ -55,5 +55,5 @@ const BUILDS: &str = "\
 
 #[test]
 fn builds_maps(rt: HostRuntime) -> Result<(), Fail> {
-    expect_rows(rt.alloc(), BUILDS, answered)
+    expect_scripts(rt.alloc(), BUILDS, answered)
 }

@@ -1,7 +1,6 @@
 //! Scripts drawn onto projects, whose commands are put together, over disks on which each call in turn fails.
 
 use crate::expect::same;
-use crate::rows::{expect_rows, meant, part};
 use crate::sweeping::{GEOMETRY, ROWS, Row, WITH_AN_AREA, Way, failing, input, sweep_all};
 use map_blocks::Stop;
 use map_script::{Names, script_lines};
@@ -12,6 +11,7 @@ use std::process::Abort;
 use std::test::Fail;
 use store_disk::{FaultDisk, MemoryDisk};
 use store_project::Geometry;
+use tests_rows::{expect_scripts, part, script_meant};
 use tests_store::small::vertices;
 
 // What a drawing left: how many vertices the project has, the line that was refused, its code and the number of its
@@ -146,7 +146,7 @@ fn stopped(alloc: Global, row: &str) -> Result<String, Fail> {
     let mut script = row;
     let how = part(&mut script, ' ');
     let call = how.parse::<i32>()?;
-    let script = meant(NAMED, script).as_bytes();
+    let script = script_meant(NAMED, script).as_bytes();
     let fault = (u64::from(call.unsigned_abs()), 0);
     let ended = fail_within(alloc, GEOMETRY, script, how.starts_with('+'), fault)?;
     let out = String::from_utf8(ended.out)?;
@@ -155,5 +155,5 @@ fn stopped(alloc: Global, row: &str) -> Result<String, Fail> {
 
 #[test]
 fn stops_at_the_first_line_that_is_lost(rt: HostRuntime) -> Result<(), Fail> {
-    expect_rows(rt.alloc(), SCRIPTS, stopped)
+    expect_scripts(rt.alloc(), SCRIPTS, stopped)
 }

@@ -1,7 +1,6 @@
 //! Lines and their answers in memory.
 
 use crate::expect::same;
-use crate::rows::expect_rows;
 use crate::streams::{Drip, Endless, Held, Narrow};
 use map_tables::Map;
 use run_edit::{EditorError, run_in_memory, write_findings};
@@ -9,6 +8,7 @@ use std::alloc::Global;
 use std::io::Read;
 use std::process::Abort;
 use std::test::Fail;
+use tests_rows::expect_scripts;
 
 const ROW: &[u8] = b"vertex 0 0\nvertex 128 0\nhex VERTEXES\n";
 
@@ -54,7 +54,7 @@ const LINES: &str = "\
 
 #[test]
 fn answers_lines(rt: HostRuntime) -> Result<(), Fail> {
-    expect_rows(rt.alloc(), LINES, |alloc, input| {
+    expect_scripts(rt.alloc(), LINES, |alloc, input| {
         told(alloc, input.as_bytes(), 2)
     })
 }
@@ -79,7 +79,7 @@ const DIGITS: &str = "\
 
 #[test]
 fn refuses_long_lines(rt: HostRuntime) -> Result<(), Fail> {
-    expect_rows(rt.alloc(), DIGITS, |alloc, digits| {
+    expect_scripts(rt.alloc(), DIGITS, |alloc, digits| {
         told(alloc, long_line(alloc, digits.parse()?)?.as_bytes(), 4)
     })
 }
@@ -96,7 +96,7 @@ fn behind(alloc: Global, digits: &str) -> Result<String, Fail> {
 
 #[test]
 fn answers_lines_behind_a_long_one(rt: HostRuntime) -> Result<(), Fail> {
-    expect_rows(rt.alloc(), BEHIND, behind)
+    expect_scripts(rt.alloc(), BEHIND, behind)
 }
 
 // Whether a run over this input uses up its turns, with this output.

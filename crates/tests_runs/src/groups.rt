@@ -1,7 +1,6 @@
 //! Runs whose commands are put on the disk together, over disks on which each call in turn fails.
 
 use crate::expect::same;
-use crate::rows::expect_rows;
 use crate::sweeping::{GEOMETRY, ROWS, Row, Way, failing, input, sweep_all};
 use run_edit::run;
 use std::alloc::Global;
@@ -9,6 +8,7 @@ use std::process::Abort;
 use std::test::Fail;
 use store_disk::{FaultDisk, MemoryDisk};
 use store_project::Geometry;
+use tests_rows::expect_scripts;
 use tests_store::small::vertices;
 
 // The answers to so many lines of which the first ones are on the disk.
@@ -100,5 +100,5 @@ fn answered(alloc: Global, call: &str) -> Result<String, Fail> {
 
 #[test]
 fn answers_refused_lines_and_queries(rt: HostRuntime) -> Result<(), Fail> {
-    expect_rows(rt.alloc(), MIXED, answered)
+    expect_scripts(rt.alloc(), MIXED, answered)
 }

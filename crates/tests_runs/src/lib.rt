@@ -15,7 +15,6 @@ mod expect;
 mod groups;
 #[cfg(test)]
 mod project_run;
-pub mod rows;
 #[cfg(test)]
 mod scripts;
 pub mod streams;

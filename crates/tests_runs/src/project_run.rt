@@ -1,7 +1,6 @@
 //! Lines over a project.
 
 use crate::expect::same;
-use crate::rows::{expect_rows, halves};
 use crate::streams::Narrow;
 use run_edit::{EditorError, answer, build_after_any_stop, run};
 use std::alloc::Global;
@@ -9,6 +8,7 @@ use std::process::Abort;
 use std::test::Fail;
 use store_disk::{Disk, FaultDisk, MemoryDisk};
 use store_project::{Geometry, Project};
+use tests_rows::{expect_scripts, script_halves};
 use tests_store::small::{SMALL, created, empty_disk, found, vertices};
 
 // A new project on a disk whose call with this number fails. The first 8 calls are those of `create`; an append makes
@@ -45,7 +45,7 @@ fn answer_all<D: Disk>(
     project: &mut Project<D>,
 ) -> Result<(), EditorError> {
     for row in LINES.split('^') {
-        let (line, wanted) = halves(row);
+        let (line, wanted) = script_halves(row);
         let out = answered(alloc, project, line.as_bytes())?;
         same(rt, &(line, out.as_slice()), &(line, wanted.as_bytes()));
     }
@@ -83,7 +83,7 @@ fn run_over(alloc: Global, call: &str) -> Result<String, Fail> {
 
 #[test]
 fn runs_over_a_project(rt: HostRuntime) -> Result<(), Fail> {
-    expect_rows(rt.alloc(), RUNS, run_over)
+    expect_scripts(rt.alloc(), RUNS, run_over)
 }
 
 #[test]

@@ -1,13 +1,13 @@
 //! Scripts, drawn onto maps in memory, and what is reported about a refused line.
 ghost use Rattle.std.specs.Prelude.{◌≡◌, IfOk, length};
 
-use crate::rows::{expect_rows, expect_text, halves};
 use map_script::{DrawError, Names, ScriptFiles, ScriptLines, script_lines};
 use run_canvas::{Canvas, Draft};
 use run_reasons::write_refused;
 use run_script::draw;
 use std::alloc::Global;
 use std::test::Fail;
+use tests_rows::{expect_scripts, expect_text, script_halves};
 
 // The file in which each line stands: all in one.
 fn files_of(alloc: Global, lines: &ScriptLines) -> Result<ScriptFiles, DrawError>
@@ -165,12 +165,12 @@ const IN_BLOCKS: &str = "\
 
 #[test]
 fn draws_scripts(rt: HostRuntime) -> Result<(), Fail> {
-    expect_rows(rt.alloc(), SCRIPTS, drawn)
+    expect_scripts(rt.alloc(), SCRIPTS, drawn)
 }
 
 #[test]
 fn tells_the_blocks_of_a_refused_line(rt: HostRuntime) -> Result<(), Fail> {
-    expect_rows(rt.alloc(), IN_BLOCKS, drawn)
+    expect_scripts(rt.alloc(), IN_BLOCKS, drawn)
 }
 
 // A line after `vertex 0 0`, `room 16 0 32 9 ..` and `v = vertex 9 9`, and the end of what is reported about it.
@@ -266,7 +266,7 @@ const REFUSED: &str = "\
 
 // The report about the line of a row, after those three, has the end that is wanted.
 fn expect_said(alloc: Global, row: &str) -> Result<(), Fail> {
-    let (line, said) = halves(row);
+    let (line, said) = script_halves(row);
     let script = format!(in alloc;
         "vertex 0 0\nroom 16 0 32 9 0 128 FLOOR4_8 CEIL3_5 STARTAN3 160\nv = vertex 9 9\n{line}"
     )?;

@@ -2,12 +2,12 @@
 //! after stops of all kinds. Runs and drawings of scripts share this.
 
 use crate::expect::same;
-use crate::rows::part;
 use std::alloc::Global;
 use std::process::Abort;
 use std::test::Fail;
 use store_disk::{Disk, FaultDisk, MemoryDisk};
 use store_project::{Geometry, Project};
+use tests_rows::part;
 use tests_store::small::{FILLS, created, found};
 
 /// A journal that 34 lines of 10 bytes fill.

@@ -2,7 +2,6 @@
 //! stops.
 
 use crate::expect::same;
-use crate::rows::halves;
 use map_commands::{apply, parse};
 use map_tables::Maps;
 use run_edit::run;
@@ -11,6 +10,7 @@ use std::process::Abort;
 use std::test::Fail;
 use store_disk::{Disk, FaultDisk, MemoryDisk};
 use store_project::Project;
+use tests_rows::script_halves;
 use tests_store::small::{FILLS, SMALL, created, opened};
 
 // A new project on a disk whose k-th call fails, after the first `part` bytes of its write. The first 8 calls are those
@@ -228,7 +228,7 @@ fn sweep_parts(
 
 // The same for lines and parts in one text.
 fn sweep_list(rt: &impl Abort, alloc: Global, list: &str) -> Result<(), Fail> {
-    let (lines, parts) = halves(list);
+    let (lines, parts) = script_halves(list);
     sweep_parts(rt, alloc, lines, 9, parts)
 }
 
@@ -280,7 +280,7 @@ const ANSWERS: &str = "\
 fn input(alloc: Global) -> Result<Vec<u8>, Fail> {
     let mut text = Vec::new(alloc);
     for row in ANSWERS.split('^') {
-        let (line, _) = halves(row);
+        let (line, _) = script_halves(row);
         text.extend_from_slice(line.as_bytes())?;
         text.push(b'\n')?;
     }
@@ -292,7 +292,7 @@ fn answers(alloc: Global, n: usize) -> Result<Vec<u8>, Fail> {
     let mut text = Vec::new(alloc);
     let mut at = 0_usize;
     for row in ANSWERS.split('^') {
-        let (_, answer) = halves(row);
+        let (_, answer) = script_halves(row);
         let told = if at < n {
             answer
         } else if at == n {

@@ -1,13 +1,13 @@
 //! Which refused lines of a script are told behind the first one.
 ghost use Rattle.std.specs.Prelude.{◌≡◌, IfOk, length};
 
-use crate::rows::expect_rows;
 use map_script::{DrawError, Names, ScriptFiles, ScriptLines, script_lines};
 use run_canvas::{Canvas, Draft};
 use run_script::draw;
 use run_stops::further_told;
 use std::alloc::Global;
 use std::test::Fail;
+use tests_rows::expect_scripts;
 
 // The file in which each line stands: all in one.
 fn files_of(alloc: Global, lines: &ScriptLines) -> Result<ScriptFiles, DrawError>
@@ -112,5 +112,5 @@ const SCRIPTS: &str = "\
 
 #[test]
 fn tells_the_lines_that_hang_on_no_other(rt: HostRuntime) -> Result<(), Fail> {
-    expect_rows(rt.alloc(), SCRIPTS, further)
+    expect_scripts(rt.alloc(), SCRIPTS, further)
 }

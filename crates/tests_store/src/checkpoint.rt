@@ -8,13 +8,14 @@ use crate::disk::fill_of;
 use crate::disks::{
     Failing, bytes_from, cut, expect_bytes, failing, length as length_of, stopped, write,
 };
-use crate::expect::{number, part, same, small, told};
+use crate::expect::{number, same, small, told};
 use crate::small::empty_disk;
 use std::alloc::Global;
 use std::process::Abort;
 use std::test::Fail;
 use store_disk::{Area, DeviceFault, Disk, FaultDisk, Fill, MemoryDisk};
 use store_slots::{CheckpointError, Found, Image, Slots, first};
+use tests_rows::part;
 
 const A: Area = Area {
     base: 16,

@@ -1,7 +1,7 @@
 //! Disks in memory: what a stop leaves, lack of room, and injected faults.
 
 use crate::disks::{bytes_from, length, stopped, write};
-use crate::expect::{bytes_of, number, part, same, small, told};
+use crate::expect::{bytes_of, number, same, small, told};
 use std::alloc::Global;
 use std::process::Abort;
 use std::test::Fail;
@@ -9,6 +9,7 @@ use store_disk::{
     Area, CLOSED_GATE, DeviceFault, Disk, FaultDisk, Fill, MemoryDisk, OPEN_GATE, OutOfMemory,
     write_through,
 };
+use tests_rows::part;
 
 // Reads the whole disk.
 fn contents<D: Disk>(alloc: Global, disk: &mut D) -> Result<Vec<u8>, Fail> {

@@ -6,6 +6,7 @@ use std::alloc::Global;
 use std::fmt::Debug;
 use std::process::Abort;
 use std::test::Fail;
+use tests_rows::part;
 
 // Fails the test if what was found isn't what was wanted.
 pub fn same<T: PartialEq + Debug>(rt: &impl Abort, found: &T, wanted: &T) {
@@ -17,13 +18,6 @@ pub fn holds(rt: &impl Abort, fact: bool)
     ensures { fact ≡ true }
 {
     assert!(rt; fact);
-}
-
-// The part of a row before the next `mark`, or all of it; what stands behind the mark is left.
-pub fn part<'a>(left: &mut &'a str, mark: char) -> &'a str {
-    let (part, rest) = left.split_once(mark).unwrap_or((*left, ""));
-    *left = rest;
-    part
 }
 
 // The next word of a row, which must be a number.

@@ -2,7 +2,7 @@
 ghost use Rattle.std.specs.Prelude.{◌≤◌, length};
 
 use crate::disks::{Failing, bytes_from, failing, length as length_of, stopped, write};
-use crate::expect::{bytes_of, number, part, same, small, told};
+use crate::expect::{bytes_of, number, same, small, told};
 use crate::ready::{AREA, blanked, opened, refreshed, reread};
 use crate::small::empty_disk;
 use std::alloc::Global;
@@ -10,6 +10,7 @@ use std::process::Abort;
 use std::test::Fail;
 use store_disk::{Disk, FaultDisk, Fill, MemoryDisk};
 use store_journal::{Journal, JournalError, blank};
+use tests_rows::part;
 
 // A synced disk with these bytes from the start of the journal's area on.
 fn disk_with(alloc: Global, bytes: &[u8]) -> Result<MemoryDisk, Fail> {

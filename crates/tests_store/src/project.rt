@@ -1,7 +1,7 @@
 //! A project: its file, and how files that are no project or are damaged are refused.
 
 use crate::disks::{bytes_from, expect_bytes, holding, length as length_of, stopped, write};
-use crate::expect::{bytes_of, number, part, same, small, told};
+use crate::expect::{bytes_of, number, same, small, told};
 use crate::small::{FILLS, SMALL, created, empty_disk, found, vertices};
 use map_commands::CommandError;
 use map_tables::{Kind, Maps};
@@ -10,6 +10,7 @@ use std::process::Abort;
 use std::test::Fail;
 use store_disk::{DeviceFault, Disk, FaultDisk, Fill, MemoryDisk};
 use store_project::{Geometry, Project, ProjectError, read_maps};
+use tests_rows::part;
 
 /// The answer to a line.
 pub fn apply<D: Disk>(project: &mut Project<D>, line: &[u8]) -> Result<u32, ProjectError> {

@@ -1,7 +1,7 @@
 //! A slot and a journal that are full, and the last generation.
 
 use crate::disks::{expect_bytes, length as length_of, write};
-use crate::expect::{part, same, told};
+use crate::expect::{same, told};
 use crate::project::{apply, checkpoint, disk_after};
 use crate::small::{SMALL, created, empty_disk, found, opened, vertices};
 use std::alloc::Global;
@@ -9,6 +9,7 @@ use std::process::Abort;
 use std::test::Fail;
 use store_disk::{DeviceFault, Disk, FaultDisk, MemoryDisk};
 use store_project::{Project, ProjectError};
+use tests_rows::part;
 
 // Fills the journal with 34 records; the generation stays the same. The answer to one more line, and the generation
 // then.

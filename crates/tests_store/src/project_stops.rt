@@ -1,7 +1,7 @@
 //! Calls that fail during the lines and checkpoints of a project, and what the project has when it is opened again.
 
 use crate::disks::{expect_bytes, failing as failing_disk, length as length_of, stopped};
-use crate::expect::{number, part, same, small};
+use crate::expect::{number, same, small};
 use crate::project::{apply, apply_all, checkpoint};
 use crate::small::{FILLS, SMALL, created, found, opened, vertices};
 use std::alloc::Global;
@@ -9,6 +9,7 @@ use std::process::Abort;
 use std::test::Fail;
 use store_disk::{DeviceFault, Disk, FaultDisk, Fill, MemoryDisk};
 use store_project::{Project, ProjectError};
+use tests_rows::part;
 
 /// A new project on a disk with an injected fault. The first 8 device calls are those of `create`.
 pub type Failing = Project<FaultDisk<MemoryDisk>>;

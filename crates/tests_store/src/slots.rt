@@ -1,12 +1,13 @@
 //! Opening two slots: which one is live, where damage is found, and generations that are used up.
 
 use crate::checkpoint::{NEW, body_of, disk_with, disk_with_old, live, opened};
-use crate::expect::{number, part, same, told};
+use crate::expect::{number, same, told};
 use std::alloc::Global;
 use std::process::Abort;
 use std::test::Fail;
 use store_disk::{Disk, FaultDisk, MemoryDisk};
 use store_slots::CheckpointError;
+use tests_rows::part;
 
 // Two slots, each with its gate, its generation, its length field and its body; where the file ends; the body that is
 // live, and the slot and the generation.
