@@ -11,7 +11,7 @@ use crate::finding::with_found;
 use crate::output::NotedOutput;
 use clap::Error;
 use clap::error::ErrorKind;
-use cli_files::{Cause, NotedFile, write_cause};
+use cli_files::{Cause, Content, NotedFile, content_in, write_cause};
 use cli_program::{perform, perform_typed, takes_lines};
 use cli_words::{CODES, RULE_WORDS, Request, RequestError, SCRIPTS, Topic, request};
 use lump_text::write_shown_lines;
@@ -31,16 +31,51 @@ const REFUSED: u8 = 1;
 // The status of arguments that are no request.
 const NO_REQUEST: u8 = 2;
 
-// How deep the stack may get, in bytes. The deepest was 1,268 KB, where a build follows a path of 1,024 nodes.
-const DEEPEST: usize = 1_400_000;
+// How deep the stack may get in a build of a project or a rebuild, in bytes. The deepest was 148 KB, where a build
+// follows a path of 1,020 nodes.
+const BUILD_DEPTH: usize = 200_000;
 
-// Touches the stack as deep as it may get, so that the system hands out its pages now, or ends the program before it
-// has done anything. Where memory ends later, an allocation is refused (31), and no call lacks a page. No compiler
+// How deep it may get in any request, in bytes. The deepest was 687 KB, where `draw` tells a script's refused lines.
+const DEPTH: usize = 1_000_000;
+
+// Touches the stack as deep as a build may get, so that the system hands out its pages now, or ends the program before
+// it has done anything. Where memory ends later, an allocation is refused (31), and no call lacks a page. No compiler
 // knows that no byte of the array is written, so none leaves it out.
 #[inline(never)]
 fn touch_stack(rt: &HostRuntime) {
-    let pages = [0; DEEPEST];
+    let pages = [0; BUILD_DEPTH];
     let _ = rt.stderr().write(&pages[..0]);
+}
+
+// The same, as deep as any request may get.
+#[inline(never)]
+fn touch_deep_stack(rt: &HostRuntime) {
+    let pages = [0; DEPTH];
+    let _ = rt.stderr().write(&pages[..0]);
+}
+
+// Whether a regular file at the path holds a project.
+fn holds_project(rt: &HostRuntime, path: &str) -> bool {
+    match fs::metadata(rt, path) {
+        Ok(facts) if facts.is_file() => {}
+        _ => return false,
+    }
+    match fs::open(rt, path) {
+        Ok(file) => matches!(content_in(&file), Ok(Content::Project)),
+        Err(_) => false,
+    }
+}
+
+// Touches the stack as deep as the request may get, unless it is a build of a project or a rebuild.
+fn ready_stack(rt: &HostRuntime, request: &Request) {
+    let is_shallow = match request {
+        Request::Build { file, .. } => holds_project(rt, file.as_str()),
+        Request::Rebuild { .. } => true,
+        _ => false,
+    };
+    if !is_shallow {
+        touch_deep_stack(rt);
+    }
 }
 
 // How large a block is allocated and given back at the start, in bytes.
@@ -255,6 +290,7 @@ fn answer<R: Read, W: Write, F: Write>(
     match request(rt.alloc(), words) {
         Ok(asked) => {
             let request = with_found(rt, asked);
+            ready_stack(rt, &request);
             greet(rt, &request);
             done(rt, &request, reader, writer, faults)
         }
