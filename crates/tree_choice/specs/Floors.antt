@@ -1,8 +1,9 @@
 -- What is known of the cost of pieces as partitions of a list, without a count.
-use Rattle.std.specs.Prelude.{◌≡◌, ℕ, ◌+◌, ◌≤◌, List, length, slice_get, Some}
+use Rattle.std.specs.Prelude.{◌≡◌, ℕ, ◌+◌, ◌≤◌, List, All, length, slice_get, Some}
 use Rattle.std.specs.List.{sum_by}
 use Rattle.tree_pieces.specs.declared.edge.Edge.{Edge}
 use Rattle.tree_pieces.specs.declared.piece.Piece.{Piece}
+use Rattle.tree_pieces.specs.Pieces.{IsPiece}
 use Rattle.tree_pieces.specs.Division.{left_parts}
 use Rattle.tree_pieces.specs.Tree.{cost}
 use Rattle.tree_choice.specs.declared.floors.Floor.{Floor}
@@ -18,6 +19,12 @@ IsFloor lines ps p NoneLeft = length (left_parts lines p ps) ≡ 0
 pub record AreFloors (lines : List Edge) (ps qs : List Piece) (floors : List Floor) : Type 0 where
   pub each : (k : ℕ) (q : Piece) (f : Floor) → slice_get qs k ≡ Some q →
       slice_get floors k ≡ Some f → IsFloor lines ps q f
+
+-- a list of pieces of the lines, and what stands beside them, as far as it goes, is true of each as a
+-- partition of the list
+pub record AreKnown (lines : List Edge) (ps : List Piece) (floors : List Floor) : Type 0 where
+  pub pieces : All (IsPiece lines) ps
+  pub known : AreFloors lines ps ps floors
 
 -- the list with what is new is the part with what is gone, in another order: whatever number each
 -- piece has, the sums agree

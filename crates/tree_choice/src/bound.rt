@@ -24,16 +24,21 @@ fn worth(floor: Floor) -> u64 {
     }
 }
 
+// Whether there is a piece at a place, and its line is unused.
+fn is_free_at(pieces: &[Piece], used: &[bool], place: usize) -> bool {
+    match pieces.get(place) {
+        None => false,
+        Some(piece) => used.get(piece.line as usize) == Some(&false),
+    }
+}
+
 // The place of a piece of an unused line of which the least is known. It is likely to be the choice, or close to it.
-fn least_known(lines: &Lines, pieces: &[Piece], used: &[bool], floors: &[Floor]) -> usize
-    requires pieces { All (IsPiece lines.now) pieces.now }
-    requires known { length used.now ≡ length lines.now }
-{
+fn least_known(pieces: &[Piece], used: &[bool], floors: &[Floor]) -> usize {
     let mut least = u64::MAX;
     let mut place = pieces.len();
     for (n, floor) in floors.iter().enumerate() {
         let cost = worth(*floor);
-        if cost < least && n < pieces.len() && !used[pieces[n].line as usize] {
+        if cost < least && is_free_at(pieces, used, n) {
             least = cost;
             place = n;
         }
@@ -67,7 +72,7 @@ pub(crate) fn bound_of(
     ensures groups { straight.new.groups ≡ straight.old.groups }
     ensures room { length straight.new.noted.items ≡ length straight.old.noted.items }
 {
-    let at = least_known(lines, pieces, used, floors);
+    let at = least_known(pieces, used, floors);
     if at >= pieces.len() || used[pieces[at].line as usize] {
         return u64::MAX;
     }

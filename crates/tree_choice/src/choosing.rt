@@ -9,7 +9,7 @@ ghost use Rattle.tree_choice.specs.Counts.{AreCountsBelow};
 ghost use Rattle.tree_choice.specs.Choices.{IsChosen};
 ghost use Rattle.tree_choice.specs.SoFar.{SoFar, no_bound};
 ghost use Rattle.tree_choice.specs.Columns.{HoldsEnds, HoldsBoxes};
-ghost use Rattle.tree_choice.specs.Floors.{AreFloors};
+ghost use Rattle.tree_choice.specs.Floors.{AreKnown};
 
 use crate::block_boxes::note_groups;
 use crate::bound::bound_of;
@@ -76,7 +76,6 @@ fn consider_ordered(
     straight: &mut StraightLines,
     floors: &mut [Floor],
 ) -> Option<Choice>
-    requires pieces { All (IsPiece lines.now) pieces.now }
     requires ordered { IsPermutation pieces.now ordered.now }
     requires blocks { AreBlocks (boxes_of lines.now ordered.now) blocks.now }
     requires known { length used.now ≡ length lines.now }
@@ -87,14 +86,14 @@ fn consider_ordered(
     requires sides { HoldsBoxes blocks.now straight.old.sides }
     requires groups { AreGroups (boxes_of lines.now ordered.now) straight.old.groups.items }
     requires room { length blocks.now ≤ length straight.old.noted.items }
-    requires floors { AreFloors lines.now pieces.now pieces.now floors.old }
+    requires floors { AreKnown lines.now pieces.now floors.old }
     requires so_far { SoFar lines.now pieces.now used.now bound at best }
     ensures so_far { SoFar lines.now pieces.now used.now bound (at + 1) result }
     ensures ends { straight.new.ends ≡ straight.old.ends }
     ensures sides { straight.new.sides ≡ straight.old.sides }
     ensures groups { straight.new.groups ≡ straight.old.groups }
     ensures room { length straight.new.noted.items ≡ length straight.old.noted.items }
-    ensures floors { AreFloors lines.now pieces.now pieces.now floors.new }
+    ensures floors { AreKnown lines.now pieces.now floors.new }
 {
     if used[piece.line as usize] {
         return best;
@@ -136,15 +135,14 @@ pub fn choose_above(
     straight: &mut StraightLines,
     floors: &mut [Floor],
 ) -> Option<Choice>
-    requires pieces { All (IsPiece lines.now) pieces.now }
     requires ordered { IsPermutation pieces.now ordered.now }
     requires boxes { boxes.now ≡ boxes_of lines.now ordered.now }
     requires blocks { AreBlocks boxes.now blocks.now }
     requires known { length used.now ≡ length lines.now }
     requires few { length pieces.now < 2 ^ 32 }
-    requires floors { AreFloors lines.now pieces.now pieces.now floors.old }
+    requires floors { AreKnown lines.now pieces.now floors.old }
     ensures choice { IsChosen lines.now pieces.now used.now result }
-    ensures floors { AreFloors lines.now pieces.now pieces.now floors.new }
+    ensures floors { AreKnown lines.now pieces.now floors.new }
 {
     if !straight.ends.has_room(ordered.len())
         || !straight.sides.has_room(blocks.len())

@@ -5,7 +5,7 @@ ghost use Rattle.tree_pieces.specs.declared.edge.Edge.{Edge};
 ghost use Rattle.tree_pieces.specs.declared.piece.Piece.{Piece};
 ghost use Rattle.tree_pieces.specs.Pieces.{IsPiece};
 ghost use Rattle.tree_choice.specs.Candidates.{AreEnded};
-ghost use Rattle.tree_choice.specs.Floors.{IsFloor, AreFloors, IsExchanged};
+ghost use Rattle.tree_choice.specs.Floors.{IsFloor, AreFloors, AreKnown, IsExchanged};
 ghost use Rattle.tree_choice.specs.Exchanges.{IsUnderWay, IsExchangeOf};
 
 use crate::block_boxes::BLOCK;
@@ -177,10 +177,9 @@ pub fn floors_of_part(
     floors: &[Floor],
     part: &[Piece],
 ) -> Result<Vec<Floor>, AllocError>
-    requires pieces { All (IsPiece lines.now) pieces.now }
     requires part { All (IsPiece lines.now) part.now }
-    requires floors { AreFloors lines.now pieces.now pieces.now floors.now }
-    ensures { IfOk result (λ known. AreFloors lines.now part.now part.now known.items) }
+    requires floors { AreKnown lines.now pieces.now floors.now }
+    ensures { IfOk result (λ known. AreKnown lines.now part.now known.items) }
 {
     let exchange = match exchange_of(alloc, pieces, floors, part)? {
         None => return Ok(Vec::new(alloc)),

@@ -1,7 +1,6 @@
 //! An order of pieces by their places, in strips.
-ghost use Rattle.std.specs.Prelude.{IfOk, All};
+ghost use Rattle.std.specs.Prelude.{IfOk};
 ghost use Rattle.std.specs.List.Sorted.{IsPermutation};
-ghost use Rattle.tree_pieces.specs.Pieces.{IsPiece};
 
 use crate::block_boxes::BLOCK;
 use std::alloc::{AllocError, Global};
@@ -72,9 +71,7 @@ impl Strips {
 /// The pieces of a list in an order in which neighbours on the map mostly stand together, so that a block of them has a
 /// small box. The order only matters for speed.
 pub fn by_place(alloc: Global, lines: &Lines, pieces: &[Piece]) -> Result<Vec<Piece>, AllocError>
-    requires { All (IsPiece lines.now) pieces.now }
-    ensures order { IfOk result (λ ordered. IsPermutation pieces.now ordered.items) }
-    ensures each { IfOk result (λ ordered. All (IsPiece lines.now) ordered.items) }
+    ensures { IfOk result (λ ordered. IsPermutation pieces.now ordered.items) }
 {
     let edges = lines.as_slice();
     let strips = Strips::over(edges, pieces);

@@ -38,6 +38,7 @@ pub record IsChildOf (lines : List Edge) (room : ℕ) (old new : OpenTree) (rest
   pub grown : IsGrown lines list.pieces.items old.used.items room (lists_of old.grown)
       (lists_of new.grown) child
 
+-- whatever the last list is, a tree of it has grown
 abbrev pub HasGrown : List Edge → ℕ → OpenTree → OpenTree → Type 0
 HasGrown lines room old new = (rest : List PlacedPieces) (list : PlacedPieces)
     → old.lists.items ≡ rest ++ list ∷ [] → IsChildOf lines room old new rest list
@@ -85,6 +86,7 @@ pub record IsNodeOpen (lines : List Edge) (room : ℕ) (old new : OpenTree) (res
   pub grown : lists_of new.grown ≡ lists_of old.grown
   pub some : 0 < room
 
+-- whatever the last list is, it was divided, and the node is open
 abbrev pub HasNodeOpen : List Edge → ℕ → OpenTree → OpenTree → Type 0
 HasNodeOpen lines room old new = (rest : List PlacedPieces) (list : PlacedPieces)
     → old.lists.items ≡ rest ++ list ∷ [] → IsNodeOpen lines room old new rest list
@@ -113,6 +115,7 @@ pub record IsNodeClosed (lines : List Edge) (old new : OpenTree) (above : List P
   pub used : new.used.items ≡ slice_set old.used.items partition.line false
   pub put : IsNodePut lines partition right left (lists_of old.grown) (lists_of new.grown) child
 
+-- whatever the last partition and its trees are, its node was put down
 abbrev pub HasNodeClosed : List Edge → OpenTree → OpenTree → Type 0
 HasNodeClosed lines old new =
     (above : List Piece) (partition : Piece) (before : List Child) (right left : Child)

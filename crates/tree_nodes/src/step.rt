@@ -5,7 +5,7 @@ ghost use Rattle.tree_pieces.specs.Pieces.{IsPiece};
 ghost use Rattle.tree_pieces.specs.Boxes.{boxes_of};
 ghost use Rattle.tree_pieces.specs.Division.{right_parts, left_parts};
 ghost use Rattle.tree_choice.specs.Choices.{IsChosen};
-ghost use Rattle.tree_choice.specs.Floors.{AreFloors};
+ghost use Rattle.tree_choice.specs.Floors.{AreKnown};
 ghost use Rattle.tree_nodes.specs.Boxed.{IsPlaced, IsPlacedList};
 ghost use Rattle.tree_nodes.specs.Growth.{IsListStep, HasBoxes};
 
@@ -135,10 +135,9 @@ fn floors_in(
     floors: &[Floor],
     part: &[Piece],
 ) -> Result<Vec<Floor>, AllocError>
-    requires pieces { All (IsPiece lines.now) list.now }
     requires part { All (IsPiece lines.now) part.now }
-    requires floors { AreFloors lines.now list.now list.now floors.now }
-    ensures { IfOk result (λ known. AreFloors lines.now part.now part.now known.items) }
+    requires floors { AreKnown lines.now list.now floors.now }
+    ensures { IfOk result (λ known. AreKnown lines.now part.now known.items) }
 {
     if part.len() <= LONG || part.len() < list.len() - list.len() / 8 {
         return Ok(Vec::new(alloc));
@@ -159,8 +158,7 @@ fn part_placed(
     floors: &[Floor],
 ) -> Result<PlacedSides, AllocError>
     requires partition { IsPiece lines.now partition.now }
-    requires pieces { All (IsPiece lines.now) list.now }
-    requires floors { AreFloors lines.now list.now list.now floors.now }
+    requires floors { AreKnown lines.now list.now floors.now }
     requires boxes { boxes.now ≡ boxes_of lines.now list.now }
     requires placed { IfSome placed (IsPlaced lines.now list.now) }
     ensures right { IfOk result
@@ -191,13 +189,12 @@ fn choice_by_place(
     straight: &mut StraightLines,
     floors: &mut [Floor],
 ) -> Result<Option<Choice>, AllocError>
-    requires pieces { All (IsPiece lines.now) list.now }
     requires order { IsPlaced lines.now list.now order.now }
     requires known { length used.now ≡ length lines.now }
     requires few { length list.now < 2 ^ 31 }
-    requires floors { AreFloors lines.now list.now list.now floors.old }
+    requires floors { AreKnown lines.now list.now floors.old }
     ensures choice { IfOk result (IsChosen lines.now list.now used.now) }
-    ensures floors { AreFloors lines.now list.now list.now floors.new }
+    ensures floors { AreKnown lines.now list.now floors.new }
 {
     let blocks = blocks_of(alloc, &order.boxes)?;
     Ok(choose_above(
@@ -242,14 +239,13 @@ fn choice_of(
     straight: &mut StraightLines,
     floors: &mut [Floor],
 ) -> Result<Option<Choice>, AllocError>
-    requires pieces { All (IsPiece lines.now) list.now }
     requires boxes { boxes.now ≡ boxes_of lines.now list.now }
     requires placed { IfSome placed.now (IsPlaced lines.now list.now) }
     requires known { length used.now ≡ length lines.now }
     requires few { length list.now < 2 ^ 31 }
-    requires floors { AreFloors lines.now list.now list.now floors.old }
+    requires floors { AreKnown lines.now list.now floors.old }
     ensures choice { IfOk result (IsChosen lines.now list.now used.now) }
-    ensures floors { AreFloors lines.now list.now list.now floors.new }
+    ensures floors { AreKnown lines.now list.now floors.new }
 {
     match placed {
         Some(order) => choice_by_place(alloc, lines, list, order, used, straight, floors),
@@ -271,7 +267,6 @@ pub(crate) fn step_in(
     used: &[bool],
     straight: &mut StraightLines,
 ) -> Result<Step, AllocError>
-    requires pieces { All (IsPiece lines.now) list.pieces.items }
     requires boxed { IsPlacedList lines.now list }
     requires known { length used.now ≡ length lines.now }
     requires few { vec_len list.pieces < 2 ^ 31 }

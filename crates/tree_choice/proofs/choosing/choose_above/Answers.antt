@@ -8,7 +8,7 @@ pub consider_ordered-best-requires-clause-stands : goal.consider_ordered-best-re
 consider_ordered-best-requires-clause-stands c = stands_at c.args.pieces.now c.loop-at.at no_piece c.loop-at-test.true
 
 pub note-requires-clause-pieces : goal.note-requires-clause-pieces
-note-requires-clause-pieces c = All-permutation (IsPiece c.args.lines.now) c.args.pieces.now c.args.ordered.now c.requires.ordered c.requires.pieces
+note-requires-clause-pieces c = All-permutation (IsPiece c.args.lines.now) c.args.pieces.now c.args.ordered.now c.requires.ordered c.requires.floors.pieces
 
 pub returns-clause-choice : goal.returns-clause-choice
 returns-clause-choice c = finished c.args.lines.now c.args.pieces.now c.args.used.now c.bound_of-bound.result c.loop-at.at c.loop-at.best c.requires.few c.bound_of-bound.ensures.bound c.loop-at-test.false c.loop-at.invariant.so_far

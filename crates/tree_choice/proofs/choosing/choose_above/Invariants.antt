@@ -1,7 +1,7 @@
 use Rattle.std.proofs.Common.{◌≤◌, length}
 use Rattle.tree_pieces.specs.Boxes.{boxes_of}
 use Rattle.tree_choice.specs.Blocks.{AreGroups}
-use Rattle.tree_choice.specs.Floors.{AreFloors}
+use Rattle.tree_choice.specs.Floors.{AreKnown}
 use Rattle.tree_choice.specs.SoFar.{SoFar}
 use Rattle.tree_choice.specs.Columns.{HoldsEnds, HoldsBoxes}
 use Rattle.tree_choice.proofs.choosing.choose_above.Given as goal
@@ -9,7 +9,7 @@ use Rattle.tree_choice.proofs.choosing.choose_above.Given as goal
 abbrev pub invariant-loop-at : goal.invariant-loop-at
 invariant-loop-at l = record {
   so_far : SoFar l.lines l.pieces l.used l.bound l.at l.best;
-  floors : AreFloors l.lines l.pieces l.pieces l.floors;
+  floors : AreKnown l.lines l.pieces l.floors;
   noted : HoldsEnds l.lines l.ordered l.straight.ends;
   sides : HoldsBoxes l.blocks l.straight.sides;
   groups : AreGroups (boxes_of l.lines l.ordered) l.straight.groups.items;

@@ -17,7 +17,7 @@ count_by_boxes-counted-requires-clause-list c =
     let l = length_permutation c.args.pieces.now c.args.ordered.now c.requires.ordered in
     let f = c.requires.few in
     record {
-      each = All-permutation (IsPiece c.args.lines.now) c.args.pieces.now c.args.ordered.now c.requires.ordered c.requires.pieces;
+      each = All-permutation (IsPiece c.args.lines.now) c.args.pieces.now c.args.ordered.now c.requires.ordered c.requires.floors.pieces;
       few = omega arith;
       ends = rw c.has_earlier.ensures.ends c.requires.noted;
       blocks = c.requires.blocks;
@@ -27,14 +27,14 @@ count_by_boxes-counted-requires-clause-list c =
 
 pub returns-then-has_earlier-clause-so_far : goal.returns-then-has_earlier-clause-so_far
 returns-then-has_earlier-clause-so_far c =
-    skips c.args.lines.now c.args.pieces.now c.args.used.now c.args.bound c.args.at c.args.piece.now c.requires.stands c.are_drawn.ensures c.requires.pieces c.args.best c.requires.so_far (c.has_earlier.ensures.earlier c.if-has_earlier.true)
+    skips c.args.lines.now c.args.pieces.now c.args.used.now c.args.bound c.args.at c.args.piece.now c.requires.stands c.are_drawn.ensures c.requires.floors.pieces c.args.best c.requires.so_far (c.has_earlier.ensures.earlier c.if-has_earlier.true)
 
 pub returns-then-reaches-clause-so_far : goal.returns-then-reaches-clause-so_far
 returns-then-reaches-clause-so_far c =
     let lines = c.args.lines.now in
     let p = c.args.piece.now in
     let ps = c.args.pieces.now in
-    let known = c.floor_at-known.ensures lines ps ps p c.requires.floors c.requires.stands in
+    let known = c.floor_at-known.ensures lines ps ps p c.requires.floors.known c.requires.stands in
     stays lines ps c.args.used.now c.args.bound c.args.at p c.requires.stands c.args.best c.requires.so_far
     (λ can. subst (λ (limit : ℕ). limit ≤ cost lines p ps) c.limit_of-limit.ensures (c.reaches.ensures lines ps p known c.if-reaches.true can.1))
 
@@ -58,8 +58,11 @@ returns-clause-floors c =
     let p = c.args.piece.now in
     let ps = c.args.pieces.now in
     let o = c.count_by_boxes-counted.result in
-    c.note_floor.ensures lines ps ps p c.requires.floors c.requires.stands
-    (reordered lines p ps c.args.ordered.now c.requires.ordered c.far_limit-far.result o c.count_by_boxes-counted.ensures.counts)
+    record {
+      pieces = c.requires.floors.pieces;
+      known = c.note_floor.ensures lines ps ps p c.requires.floors.known c.requires.stands
+          (reordered lines p ps c.args.ordered.now c.requires.ordered c.far_limit-far.result o c.count_by_boxes-counted.ensures.counts);
+    }
 
 pub returns-then-used-piece-clause-so_far : goal.returns-then-used-piece-clause-so_far
 returns-then-used-piece-clause-so_far c =

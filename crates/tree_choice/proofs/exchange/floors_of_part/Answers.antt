@@ -14,7 +14,7 @@ whole c = subst (λ (o : Option Exchange). IfSome o (IsExchangeOf c.args.pieces.
 pub note-requires-clause-pieces : goal.note-requires-clause-pieces
 note-requires-clause-pieces c =
     let w = whole (goal.at.note-requires-clause-pieces c).In-Some in
-    subst (All (IsPiece c.args.lines.now)) (sym c.deref.ensures.value) (w.lost c.args.lines.now c.requires.pieces)
+    subst (All (IsPiece c.args.lines.now)) (sym c.deref.ensures.value) (w.lost c.args.lines.now c.requires.floors.pieces)
 
 pub note-requires-2-clause-pieces : goal.note-requires-2-clause-pieces
 note-requires-2-clause-pieces c =
@@ -25,7 +25,7 @@ pub known_in_all-requires-clause-gone : goal.known_in_all-requires-clause-gone
 known_in_all-requires-clause-gone c =
     let w = whole (goal.at.known_in_all-requires-clause-gone c).In-Some in
     record {
-      each = subst (All (IsPiece c.args.lines.now)) (sym c.deref-3.ensures.value) (w.lost c.args.lines.now c.requires.pieces);
+      each = subst (All (IsPiece c.args.lines.now)) (sym c.deref-3.ensures.value) (w.lost c.args.lines.now c.requires.floors.pieces);
       ends = ends_there c.args.lines.now c.in-Some.exchange.lost.items c.deref.result.now _ _ _ _ _ c.len-lost.result c.deref.ensures.value c.deref-3.ensures.value (omega (arith, c.len-lost.ensures, c.in-Some.exchange.lost.ok.0)) c.deref-4.ensures.value c.deref-5.ensures.value c.note.ensures;
     }
 
