@@ -14,6 +14,7 @@ use crate::kept::kept_faults;
 use crate::made::{MadeLumps, lumps_of, new_reject};
 use lump_records::{ITEM_LIMIT, Line, Side, Vertex};
 use std::alloc::Global;
+use std::mem::replace;
 use tree_blocks::{BlockmapError, blockmap_over, ends_over};
 use tree_nodes::{Built, TreeError, build_lines};
 use tree_pieces::edges_in;
@@ -21,19 +22,21 @@ use wad_file::Wad;
 use wad_levels::{Drawn, Hindrance, LevelEntries, read_drawn};
 
 // The tree over the lines. They have what a build needs, so only lack of memory can prevent the list of their edges.
+// The sides are given back before the tree grows.
 fn tree_over(
     alloc: Global,
     front: &[Vertex],
-    sides: &[Side],
+    sides: Vec<Side>,
     lines: &[Line],
 ) -> Result<Built, Cause>
     ensures built { IfOk result (IsBuiltOver (edges_in front.now lines.now) front.now) }
     ensures refused { IfErr result (IsTreeCause (edges_in front.now lines.now) front.now) }
 {
-    let edges = match edges_in(alloc, front, sides, lines) {
+    let edges = match edges_in(alloc, front, &sides, lines) {
         Ok(edges) => edges,
         Err(_) => return Err(Cause::OutOfMemory),
     };
+    drop(sides);
     match build_lines(alloc, &edges, front) {
         Ok(tree) => Ok(tree),
         Err(TreeError::OutOfMemory) => Err(Cause::OutOfMemory),
@@ -61,26 +64,31 @@ fn blocks_over(alloc: Global, front: &[Vertex], lines: &[Line]) -> Result<Vec<u8
     }
 }
 
-// The lumps of a level that has what a build needs, and the faults that stay.
-fn made_of(alloc: Global, drawn: Drawn) -> Result<MadeLumps, Cause>
+// The lumps of a level that has what a build needs, and the faults that stay. What the tree doesn't need is given back
+// before it grows: a rebuild takes the most memory then.
+fn made_of(alloc: Global, mut drawn: Drawn) -> Result<MadeLumps, Cause>
     ensures { MatchResult result (IsMadeAnew (drawn_view drawn)) (IsUnmade (drawn_view drawn)) }
 {
     let sectors = drawn.sectors.len();
     if sectors > ITEM_LIMIT {
         return Err(Cause::TooManySectors);
     }
+    let reject = match new_reject(alloc, sectors as u16, &drawn.reject) {
+        Ok(reject) => reject,
+        Err(_) => return Err(Cause::OutOfMemory),
+    };
+    drawn.things = Vec::new(alloc);
+    drawn.sectors = Vec::new(alloc);
+    drawn.reject = Vec::new(alloc);
+    let sides = replace(&mut drawn.sides, Vec::new(alloc));
     let front = front_of(&drawn.vertices, &drawn.lines);
-    let tree = match tree_over(alloc, front, &drawn.sides, &drawn.lines) {
+    let tree = match tree_over(alloc, front, sides, &drawn.lines) {
         Ok(tree) => tree,
         Err(cause) => return Err(cause),
     };
     let blockmap = match blocks_over(alloc, front, &drawn.lines) {
         Ok(bytes) => bytes,
         Err(cause) => return Err(cause),
-    };
-    let reject = match new_reject(alloc, sectors as u16, &drawn.reject) {
-        Ok(reject) => reject,
-        Err(_) => return Err(Cause::OutOfMemory),
     };
     let kept = match kept_faults(alloc, &drawn.lines) {
         Ok(kept) => kept,
