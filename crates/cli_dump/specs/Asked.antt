@@ -12,7 +12,7 @@ use Rattle.wad_levels.specs.declared.error.ReadError.TheVariants.{NoSuchLevel}
 use Rattle.map_tables.specs.Projects.{ProjectMaps}
 use Rattle.map_tables.specs.Tables.{Tables}
 use Rattle.wad_file.specs.Names.{is_asked}
-use Rattle.cli_print.specs.Picturing.{is_called}
+use Rattle.cli_print.specs.Called.{is_called}
 
 -- ---- maps
 

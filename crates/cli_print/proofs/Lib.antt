@@ -1,8 +1,6 @@
+pub mod FirstCalled
 pub mod LevelLines
-pub mod LevelPicture
 pub mod Linting
-pub mod MarkList
 pub mod Origins
-pub mod Picturing
-mod Putting
+pub mod Taking
 pub mod Unread

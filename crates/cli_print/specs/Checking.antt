@@ -10,7 +10,7 @@ use Rattle.run_edit.specs.Runs.{Unwritten}
 use Rattle.run_edit.specs.Texts.{total_text}
 use Rattle.map_dump.specs.Texts.{with_lf}
 use Rattle.cli_print.specs.Origins.{finding_told}
-use Rattle.cli_print.specs.Picturing.{is_called}
+use Rattle.cli_print.specs.Called.{is_called}
 use Rattle.cli_refusals.specs.Statuses.{status_after}
 use Rattle.cli_refusals.specs.declared.refusal.Refusal.{Refusal}
 use Rattle.cli_refusals.specs.declared.refusal.Refusal.TheVariants as of

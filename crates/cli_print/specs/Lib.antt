@@ -1,13 +1,9 @@
+pub mod Called
 pub mod Checking
 pub mod Choosing
-pub mod LaidOver
 pub mod LevelLines
-pub mod LevelPicture
-pub mod LevelTree
 pub mod Linting
-pub mod Marking
 pub mod Origins
-pub mod Picturing
 pub mod Reading
 pub mod ShownNames
 pub mod WantedLevels

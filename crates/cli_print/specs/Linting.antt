@@ -16,7 +16,7 @@ use Rattle.cli_refusals.specs.Refusals.{EndsReading}
 use Rattle.cli_refusals.specs.Statuses.{status_after}
 use Rattle.cli_print.specs.Choosing.{ChosenWords, LintWants, chosen_findings, chosen_warnings}
 use Rattle.cli_print.specs.Origins.{finding_told, warning_told}
-use Rattle.cli_print.specs.Picturing.{is_called}
+use Rattle.cli_print.specs.Called.{is_called}
 use Rattle.cli_print.specs.Reading.{ReadsAll}
 use Rattle.run_edit.specs.Texts.{total_text}
 use Rattle.run_edit.specs.declared.error.EditorError.{EditorError}

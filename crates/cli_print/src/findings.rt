@@ -7,8 +7,8 @@ ghost use Rattle.run_edit.specs.Texts.{total_text};
 ghost use Rattle.run_edit.specs.declared.error.EditorError.TheVariants.{WriterFailed};
 ghost use Rattle.cli_print.specs.Checking.{IsCheckedIn, IsCheckedOf, checked_text};
 
+use crate::called::map_called;
 use crate::origin::Origin;
-use crate::pictures::map_called;
 use crate::remarks::plus;
 use crate::told::put_findings;
 use cli_refusals::{Refusal, status_after};

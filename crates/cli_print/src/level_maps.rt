@@ -40,7 +40,7 @@ pub fn map_of_level(
 }
 
 /// The same; if the level is no map, with the refusal of the request.
-pub(crate) fn map_or_refusal(
+pub fn map_or_refusal(
     alloc: Global,
     wad: &Wad<'_>,
     level: LevelEntries,

@@ -23,6 +23,7 @@ use run_edit::{EditorError, InspectError, write_total};
 use std::alloc::Global;
 use std::fs::Files;
 use std::io::Write;
+use std::os::unix::fs::FileExt;
 use wad_file::Wad;
 use wad_import::ImportError;
 use wad_levels::{LevelEntries, level_name, read_wad};
@@ -183,6 +184,8 @@ pub fn tell_levels_beside<E: AllocGlobal + Files, W: Write>(
     writer: &mut W,
     why: &mut Option<Cause>,
 ) -> Result<u8, Refusal>
+where
+    E::File: FileExt,
     ensures small { IfOk result (λ s. s ≤ 3) }
     ensures told { IsWadLintedBy (is_some iwad.entry) (choice_view choice.entry) wad.now
         (option_map (λ s. s.now) name.entry) result

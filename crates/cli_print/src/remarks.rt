@@ -9,9 +9,9 @@ ghost use Rattle.cli_print.specs.Linting.{AreTold, IsLintedBy, IsLintedIn, IsLin
 ghost use Rattle.cli_print.specs.Choosing.{choice_view, wants_view};
 ghost use Rattle.run_edit.specs.declared.error.EditorError.TheVariants.{OutOfMemory};
 
+use crate::called::map_called;
 use crate::choosing::{Choice, Wants, chosen_findings, chosen_warnings};
 use crate::origin::Origin;
-use crate::pictures::map_called;
 use crate::told::lines_told;
 use crate::wad_graphics::graphics_given;
 use cli_files::Cause;
@@ -22,6 +22,7 @@ use run_edit::{EditorError, write_total};
 use std::alloc::Global;
 use std::fs::Files;
 use std::io::Write;
+use std::os::unix::fs::FileExt;
 use wad_levels::Graphics;
 
 /// The sum, if it fits 32 bits. No memory holds more findings than that.
@@ -232,6 +233,8 @@ pub fn tell_beside<E: AllocGlobal + Files, O: Origin, W: Write>(
     writer: &mut W,
     why: &mut Option<Cause>,
 ) -> Result<u8, Refusal>
+where
+    E::File: FileExt,
     ensures small { IfOk result (λ s. s ≤ 3) }
     ensures told { IsLintedBy (O.origin origin.now) (is_some iwad.entry) (choice_view choice.entry)
         (option_map (λ s. s.now) name.entry) maps.now result

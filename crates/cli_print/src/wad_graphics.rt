@@ -4,13 +4,16 @@ ghost use Rattle.wad_levels.specs.Graphics.{graphics_view};
 ghost use Rattle.cli_print.specs.Linting.{IsNamedBy, IsNamedOf, RefusesNaming};
 
 use crate::limits::TURNS;
+use crate::lumps_read::LumpsRead;
 use crate::reading::read_wad;
+use crate::wad_reader::WadReader;
 use cli_files::Cause;
 use cli_refusals::Refusal;
 use run_edit::{EditorError, InspectError};
 use std::alloc::Global;
 use std::fs::{self, Files};
 use std::io::Read;
+use std::os::unix::fs::FileExt;
 use wad_levels::{Graphics, graphics_in};
 
 // The names in all that the reader gives, or notes why it can't be read.
@@ -35,11 +38,16 @@ fn graphics_at<E: AllocGlobal + Files>(
     path: &str,
     why: &mut Option<Cause>,
 ) -> Result<Graphics, Refusal>
+where
+    E::File: FileExt,
     ensures named { IfOk result (λ g. IsNamedBy true (Some (graphics_view g))) }
     ensures refused { IfErr result RefusesNaming }
 {
     match fs::open(rt, path) {
-        Ok(mut file) => graphics_read(rt.alloc(), &mut file, TURNS, why),
+        Ok(mut file) => {
+            let mut reader = WadReader::new(rt.alloc(), &mut file, LumpsRead::Graphics);
+            graphics_read(rt.alloc(), &mut reader, TURNS, why)
+        }
         Err(error) => {
             *why = Some(Cause::System(error));
             Err(Refusal::Lines(EditorError::ReaderFailed))
@@ -54,6 +62,8 @@ pub fn graphics_given<E: AllocGlobal + Files>(
     path: Option<&str>,
     why: &mut Option<Cause>,
 ) -> Result<Option<Graphics>, Refusal>
+where
+    E::File: FileExt,
     ensures named { IfOk result (λ g. IsNamedBy (is_some path.entry) (option_map graphics_view g)) }
     ensures refused { IfErr result (λ e. (is_some path.entry ≡ true) × RefusesNaming e) }
 {

@@ -29,7 +29,7 @@ fn wanted_of(wad: &Wad<'_>, levels: &[LevelEntries], name: Option<&str>) -> Opti
 }
 
 /// The wanted level of a WAD: the last one with the name, or the first of all if no name is asked for.
-pub(crate) fn wanted_level(
+pub fn wanted_level(
     alloc: Global,
     wad: &Wad<'_>,
     name: Option<&str>,

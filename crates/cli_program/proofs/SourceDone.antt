@@ -6,12 +6,12 @@ use Rattle.store_disk.specs.declared.disk.Disk.{Ghosts}
 use Rattle.std.specs.Prelude.{is_some, map, option_map, string_bytes}
 use Rattle.cli_print.specs.Checking.{IsCheckedIn}
 use Rattle.cli_print.specs.Choosing.{ChosenWords}
-use Rattle.cli_print.specs.LaidOver.{layers_of}
+use Rattle.cli_pictures.specs.LaidOver.{layers_of}
 use Rattle.cli_print.specs.LevelLines.{IsWadChecked, IsWadLintedBy}
-use Rattle.cli_print.specs.LevelPicture.{IsLevelPicturedOf}
+use Rattle.cli_pictures.specs.LevelPicture.{IsLevelPicturedOf}
 use Rattle.cli_print.specs.Linting.{IsLintedBy}
-use Rattle.cli_print.specs.Picturing.{IsPicturedOf}
-use Rattle.cli_print.specs.declared.laid_over.Layers.{Layers}
+use Rattle.cli_pictures.specs.Picturing.{IsPicturedOf}
+use Rattle.cli_pictures.specs.declared.laid_over.Layers.{Layers}
 use Rattle.cli_program.specs.SourceDeeds.{IsBuiltAt, IsCheckedAt, IsDoneWith, IsDumpedAt, IsLintedAt, IsPicturedAt}
 use Rattle.cli_program.specs.SomeSource.{OverSome, OverSource}
 use Rattle.cli_requests.specs.Requests.{IsBuiltFrom}

@@ -6,12 +6,12 @@ use Rattle.cli_dump.specs.Dumping.{IsDumpedIn}
 use Rattle.cli_dump.specs.LevelDumps.{IsWadDumped}
 use Rattle.cli_print.specs.Checking.{IsCheckedIn}
 use Rattle.cli_print.specs.Choosing.{ChosenWords}
-use Rattle.cli_print.specs.LaidOver.{layers_of}
+use Rattle.cli_pictures.specs.LaidOver.{layers_of}
 use Rattle.cli_print.specs.LevelLines.{IsWadChecked, IsWadLintedBy}
-use Rattle.cli_print.specs.LevelPicture.{IsLevelPicturedOf}
+use Rattle.cli_pictures.specs.LevelPicture.{IsLevelPicturedOf}
 use Rattle.cli_print.specs.Linting.{IsLintedBy}
-use Rattle.cli_print.specs.Picturing.{IsPicturedOf}
-use Rattle.cli_print.specs.declared.laid_over.Layers.{Layers}
+use Rattle.cli_pictures.specs.Picturing.{IsPicturedOf}
+use Rattle.cli_pictures.specs.declared.laid_over.Layers.{Layers}
 use Rattle.cli_scripts.specs.ScriptCanvases.{maps_alone, maps_with_origins}
 use Rattle.cli_program.specs.SomeSource.{OverSource}
 use Rattle.cli_requests.specs.Requests.{IsBuiltFrom}

@@ -7,7 +7,8 @@ ghost use Rattle.cli_program.specs.SourceDeeds.{IsBuiltAt, IsCheckedAt, IsDumped
 use crate::over_script::{build_script, check_script, dump_script, lint_script, picture_script};
 use crate::over_source::{build_file, check_file, dump_file, lint_file, picture_file};
 use cli_files::Hold;
-use cli_print::{Choice, Wanted};
+use cli_pictures::Wanted;
+use cli_print::Choice;
 use cli_refusals::{Causes, Refusal};
 use cli_scripts::is_file;
 use std::io::{Read, Write};

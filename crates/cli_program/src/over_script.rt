@@ -5,20 +5,22 @@ ghost use Rattle.cli_dump.specs.Dumping.{IsDumpedIn};
 ghost use Rattle.cli_print.specs.Checking.{IsCheckedIn};
 ghost use Rattle.cli_print.specs.Choosing.{choice_view};
 ghost use Rattle.cli_print.specs.Linting.{IsLintedBy};
-ghost use Rattle.cli_print.specs.Picturing.{IsPicturedOf};
+ghost use Rattle.cli_pictures.specs.Picturing.{IsPicturedOf};
 ghost use Rattle.cli_scripts.specs.ScriptCanvases.{maps_alone, maps_with_origins};
 ghost use Rattle.cli_scripts.specs.ScriptMaps.{OverScript};
 ghost use Rattle.cli_requests.specs.Requests.{IsBuiltFrom};
 
 use cli_dump::tell_lines_of;
 use cli_files::{Cause, Hold};
-use cli_print::{Choice, Wanted, draw, tell_beside, tell_findings};
+use cli_pictures::{Wanted, draw};
+use cli_print::{Choice, tell_beside, tell_findings};
 use cli_refusals::{Causes, Refusal};
 use cli_requests::build_at;
 use cli_scripts::{ScriptOrigin, draw_maps};
 use run_canvas::{Canvas, Draft, OriginDraft};
 use std::fs::Files;
 use std::io::{Read, Write};
+use std::os::unix::fs::FileExt;
 
 /// Writes what is wrong or unfinished in the map with the name that the script at a path draws, or in the current one,
 /// and behind each finding the lines that added its items.
@@ -63,6 +65,8 @@ pub fn lint_script<E: AllocGlobal + Files, R: Read, W: Write, F: Write>(
     faults: &mut F,
     why: &mut Causes,
 ) -> Result<u8, Refusal>
+where
+    E::File: FileExt,
     ensures small { IfOk result (λ s. s ≤ 3) }
     ensures linted { OverScript maps_with_origins script.now
         (R.remaining reader.old) (R.remaining reader.new) result

@@ -14,7 +14,7 @@ use Rattle.wad_file.specs.Lumps.{Lump, lump_at, wad_size}
 use Rattle.wad_file.specs.Placed.{AtHand, content_size, placed_bytes}
 use Rattle.wad_file.specs.declared.entry.Entry.{Entry}
 use Rattle.wad_file.proofs.PlacedLemmas.{placed_bytes-append}
-use Rattle.cli_sources.proofs.Taking.{takes_on}
+use Rattle.cli_print.proofs.Taking.{takes_on}
 use Rattle.wad_rebuild.specs.Held.{StandsInFor, entry_in, is_drawn_name, kept_at, kept_content, kept_lumps, part_of_entry}
 use Rattle.cli_rebuild.specs.Holding.{AddsHeld, AreHeldIn, IsHeldFrom, IsHeldLump, IsHeldPart, sizes_in}
 

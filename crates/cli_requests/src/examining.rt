@@ -3,9 +3,8 @@ ghost use Rattle.std.specs.Prelude.{◌≤◌, IfOk};
 ghost use Rattle.cli_requests.specs.Requests.{IsExamined, IsExaminedOf};
 
 use cli_files::Cause;
-use cli_print::{TURNS, read_wad};
+use cli_print::{LumpsRead, TURNS, WadReader, read_wad};
 use cli_refusals::{Refusal, status_told};
-use cli_sources::{LumpsRead, WadReader};
 use run_edit::{EditorError, inspect};
 use std::alloc::Global;
 use std::fs::{self, Files};

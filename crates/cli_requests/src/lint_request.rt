@@ -16,6 +16,7 @@ use cli_sources::{HandedBack, maps_on};
 use map_tables::Maps;
 use std::fs::Files;
 use std::io::{Read, Write};
+use std::os::unix::fs::FileExt;
 use store_disk::Disk;
 
 /// Writes about each map of a disk's project, or about the one with the name alone: the findings of `check`, then the
@@ -32,6 +33,8 @@ pub fn lint<E: AllocGlobal + Files, D: Disk, W: Write>(
     writer: &mut W,
     why: &mut Option<Cause>,
 ) -> HandedBack<D>
+where
+    E::File: FileExt,
     ensures small { IfOk result.how (λ s. s ≤ 3) }
     ensures linted { OverMaps D.Disk disk result.disk result.how
         (W.contents writer.old) (W.contents writer.new)
@@ -61,6 +64,8 @@ pub fn lint_wad<E: AllocGlobal + Files, R: Read, W: Write>(
     writer: &mut W,
     why: &mut Causes,
 ) -> Result<u8, Refusal>
+where
+    E::File: FileExt,
     ensures small { IfOk result (λ s. s ≤ 3) }
     ensures linted { OverWad (R.remaining reader.old) (R.remaining reader.new) result
         (W.contents writer.old) (W.contents writer.new)

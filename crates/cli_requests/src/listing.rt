@@ -7,9 +7,8 @@ ghost use Rattle.run_edit.specs.declared.error.EditorError.TheVariants.{WriterFa
 ghost use Rattle.wad_levels.specs.Listing.{listing_refusal};
 
 use cli_files::Cause;
-use cli_print::{TURNS, read_wad, write_shown};
+use cli_print::{LumpsRead, TURNS, WadReader, read_wad, write_shown};
 use cli_refusals::{DONE, Refusal};
-use cli_sources::{LumpsRead, WadReader};
 use lump_records::Name8;
 use run_edit::{EditorError, InspectError};
 use std::alloc::Global;

@@ -1,13 +1,14 @@
 //! The request `picture`: a map of a disk's project, or a level of a WAD, as SVG.
 ghost use Rattle.std.specs.Prelude.{◌≤◌, IfOk, is_some, option_map};
 ghost use Rattle.run_edit.specs.Recovery.{IsOnlyRead};
-ghost use Rattle.cli_print.specs.Picturing.{IsPicturedOf};
+ghost use Rattle.cli_pictures.specs.Picturing.{IsPicturedOf};
 ghost use Rattle.cli_sources.specs.Opened.{OverMaps};
 ghost use Rattle.cli_sources.specs.Unread.{OverWad};
-ghost use Rattle.cli_print.specs.LevelPicture.{IsLevelPicturedOf};
+ghost use Rattle.cli_pictures.specs.LevelPicture.{IsLevelPicturedOf};
 
 use cli_files::{Cause, Hold};
-use cli_print::{TURNS, Wanted, draw, draw_level, read_wad};
+use cli_pictures::{Wanted, draw, draw_level};
+use cli_print::{TURNS, read_wad};
 use cli_refusals::{Causes, Refusal};
 use cli_sources::{HandedBack, maps_on};
 use map_tables::Maps;

@@ -10,7 +10,7 @@ use Rattle.run_edit.specs.declared.error.EditorError.TheVariants.{OutOfMemory}
 use Rattle.store_project.specs.declared.error.ProjectError.TheVariants.{NotAProject}
 use Rattle.run_canvas.specs.Canvases.{OneOf}
 use Rattle.run_canvas.specs.declared.canvas.Canvas as canvas
-use Rattle.cli_print.specs.Picturing.{is_called}
+use Rattle.cli_print.specs.Called.{is_called}
 use Rattle.cli_print.specs.Reading.{ReadsAll}
 use Rattle.cli_scripts.specs.Drawing.{DrawsWhole, TellsStops}
 use Rattle.cli_sources.specs.Unread.{IsRefusedFor, IsUnreadOf}

@@ -6,7 +6,7 @@ use Rattle.map_script.specs.Lines.{name_in}
 use Rattle.map_script.specs.Words.{text_words}
 use Rattle.map_tables.specs.declared.kind.Kind.{Kind}
 use Rattle.run_canvas.specs.Origins.{OriginMaps, origin_of}
-use Rattle.cli_print.specs.Picturing.{is_called}
+use Rattle.cli_print.specs.Called.{is_called}
 use Rattle.cli_scripts.specs.declared.script_origin.ScriptOrigin.TheInside.{Inside}
 
 -- a script that was drawn whole: its lines, the file of each, and the maps that it drew

@@ -6,7 +6,7 @@ ghost use Rattle.map_script.specs.Views.{seen};
 ghost use Rattle.map_tables.specs.Projects.{project_of};
 ghost use Rattle.map_tables.specs.Tables.{Tables};
 ghost use Rattle.run_edit.specs.declared.error.EditorError.TheVariants.{WriterFailed};
-ghost use Rattle.cli_print.specs.Picturing.{is_called};
+ghost use Rattle.cli_print.specs.Called.{is_called};
 ghost use Rattle.cli_scripts.specs.ScriptOrigins.{given_text, line_origin, origin_text, standing_text};
 
 use crate::including::WholeScript;

@@ -1,7 +1,7 @@
 use Rattle.std.proofs.Common.{◌∙◌, refl, subst, sym}
 use Rattle.wad_file.specs.Lumps.{Lump}
 use Rattle.cli_rebuild.specs.Holding.{IsHeldPart}
-use Rattle.cli_sources.proofs.Taking.{takes_one}
+use Rattle.cli_print.proofs.Taking.{takes_one}
 use Rattle.cli_rebuild.proofs.Holding.{adds_one}
 use Rattle.cli_rebuild.proofs.held.hold_one.Goals as goal
 

@@ -4,7 +4,7 @@ use Rattle.std.proofs.lemmas.Option.{slice_get-get_or}
 use borrow.Author.Count.{below_more}
 use Rattle.map_tables.specs.Projects.{project_of}
 use Rattle.map_tables.specs.Tables.{Tables, empty_tables}
-use Rattle.cli_print.specs.Picturing.{is_called}
+use Rattle.cli_print.specs.Called.{is_called}
 use Rattle.cli_scripts.proofs.script_origin.first_called.Goals as goal
 
 pub returns-then-is_nth_called : goal.returns-then-is_nth_called

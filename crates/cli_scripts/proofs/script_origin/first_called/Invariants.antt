@@ -1,7 +1,7 @@
 use Rattle.std.proofs.Common.{◌≡◌, ◌<◌, ℕ, false, get_or}
 use Rattle.map_tables.specs.Projects.{project_of}
 use Rattle.map_tables.specs.Tables.{Tables}
-use Rattle.cli_print.specs.Picturing.{is_called}
+use Rattle.cli_print.specs.Called.{is_called}
 use Rattle.cli_scripts.proofs.script_origin.first_called.Given as goal
 
 -- no map so far is called so

@@ -6,7 +6,7 @@ use Rattle.lump_records.specs.Names.{name_text}
 use Rattle.map_tables.specs.Projects.{ProjectMaps}
 use Rattle.run_canvas.specs.Origins.{origin_of}
 use Rattle.run_edit.specs.declared.error.EditorError.TheVariants.{WriterFailed}
-use Rattle.cli_print.specs.Picturing.{is_called}
+use Rattle.cli_print.specs.Called.{is_called}
 use Rattle.cli_scripts.specs.ScriptOrigins.{DrawnScript, origin_text, script_origin}
 use Rattle.cli_scripts.proofs.script_origin.ScriptOriginOrigin.write_origin.Goals as goal
 

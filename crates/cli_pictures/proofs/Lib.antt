@@ -1,0 +1,4 @@
+pub mod LevelPicture
+pub mod MarkList
+pub mod Picturing
+mod Putting

@@ -1,0 +1,5 @@
+pub mod LaidOver
+pub mod LevelPicture
+pub mod LevelTree
+pub mod Marking
+pub mod Picturing
