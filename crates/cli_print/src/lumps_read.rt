@@ -23,9 +23,10 @@ pub enum LumpsRead<'a> {
     Graphics,
 }
 
-// All bytes of a lump, and so many that a picture's width is among them.
+// All bytes of a lump.
 const WHOLE: u32 = u32::MAX;
 
+// So many bytes of a lump that a picture's width is among them.
 const HEAD: u32 = 2;
 
 // The names of the lumps that list textures and patches.

@@ -256,11 +256,27 @@ fn paths_of(request: &Request) -> (&str, &str) {
     }
 }
 
-/// Writes why a file can't be opened, read or made, or what it holds instead, as `  PATH: REASON`, if that is known.
+// Whether a request changes a project and there is no file at its path.
+fn lacks_project(request: &Request, why: &Causes) -> bool {
+    let is_change = match request {
+        Request::Edit { .. } | Request::Draw { .. } => true,
+        _ => false,
+    };
+    match &why.file {
+        Some(Cause::System(error)) => is_change && error.kind() == io::ErrorKind::NotFound,
+        _ => false,
+    }
+}
+
+/// Writes why a file can't be opened, read or made, or what it holds instead, as `  PATH: REASON`, if that is known;
+/// and what makes a project where there is none to change.
 pub fn report_causes<F: Write>(alloc: Global, request: &Request, why: &Causes, faults: &mut F) {
     let (file, other) = paths_of(request);
     if let Some(cause) = &why.file {
         let _ = write_cause(alloc, file, cause, faults);
+    }
+    if lacks_project(request, why) {
+        let _ = writeln!(faults, "  `leveled create FILE` makes a project");
     }
     if let Some(cause) = &why.out {
         let _ = write_cause(alloc, other, cause, faults);
