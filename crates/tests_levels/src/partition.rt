@@ -3,15 +3,17 @@
 use crate::drawing::drawn;
 use crate::expect::{holds, same};
 use crate::tangle::{Sequence, draw_tangle};
+use lump_records::Bounds;
 use map_tables::Map;
 use std::alloc::Global;
 use std::process::Abort;
 use std::test::Fail;
 use tests_rows::{expect_rows, said};
 use tree_choice::{
-    Choice, StraightLines, blocks_of, by_place, choose, choose_in_boxes, choose_ordered, separates,
+    Choice, EndedList, StraightLines, blocks_of, by_place, choose, choose_in_boxes, choose_ordered,
+    separates,
 };
-use tree_pieces::{boxes_in, divide, edges_of, pieces_of};
+use tree_pieces::{divide, edges_of, pieces_of};
 
 // The choice among a map's whole sides, if these lines are used. All three calls and brute force make the same choice.
 fn chosen(
@@ -24,12 +26,13 @@ fn chosen(
     let edges = edges_of(alloc, map)?;
     holds(rt, used.len() == edges.len());
     holds(rt, pieces.len() <= 60);
-    let boxes = boxes_in(alloc, &edges, &pieces)?;
-    holds(rt, boxes.len() <= 60);
-    let blocks = blocks_of(alloc, &boxes)?;
-    let mut straight = StraightLines::new(alloc, &edges)?;
     let choice = choose(map, &pieces, used);
-    let by_boxes = choose_in_boxes(&edges, &pieces, &boxes, &blocks, used, &mut straight);
+    let list = EndedList::of(alloc, &edges, pieces)?;
+    let slices = list.as_slices();
+    holds(rt, slices.pieces.len() <= 60);
+    let blocks = blocks_of(alloc, &edges, &slices)?;
+    let mut straight = StraightLines::new(alloc, &edges)?;
+    let by_boxes = choose_in_boxes(&edges, &slices, &blocks, used, &mut straight);
     same(rt, &choice, &by_boxes);
     same(rt, &choice, &chosen_by_place(rt, alloc, map, used)?);
     same(rt, &choice, &walked(alloc, map, used)?);
@@ -47,20 +50,13 @@ fn chosen_by_place(
     let edges = edges_of(alloc, map)?;
     holds(rt, used.len() == edges.len());
     holds(rt, pieces.len() <= 60);
-    let ordered = by_place(alloc, &edges, &pieces)?;
-    let boxes = boxes_in(alloc, &edges, &ordered)?;
-    holds(rt, boxes.len() <= 60);
-    let blocks = blocks_of(alloc, &boxes)?;
+    let placed = by_place(alloc, &edges, &pieces)?;
+    let ordered = EndedList::of(alloc, &edges, placed)?;
+    let slices = ordered.as_slices();
+    holds(rt, slices.pieces.len() <= 60);
+    let blocks = blocks_of(alloc, &edges, &slices)?;
     let mut straight = StraightLines::new(alloc, &edges)?;
-    let choice = choose_ordered(
-        &edges,
-        &pieces,
-        &ordered,
-        &boxes,
-        &blocks,
-        used,
-        &mut straight,
-    );
+    let choice = choose_ordered(&edges, &pieces, &slices, &blocks, used, &mut straight);
     Ok(choice)
 }
 
@@ -130,6 +126,38 @@ fn choice_of(rt: &impl Abort, alloc: Global, row: &str) -> Result<String, Fail> 
 #[test]
 fn takes_the_first_of_the_cheapest(rt: HostRuntime) -> Result<(), Fail> {
     expect_rows(rt.alloc(), CHOICES, |alloc, row| choice_of(&rt, alloc, row))
+}
+
+// The box of each block of the pieces of the L, which are six: one step larger on each side than that of all ends.
+const BLOCKS: &str = "L|[[257, -1, -1, 257]]";
+
+// The boxes of the blocks of a map's pieces, each as top, bottom, left and right.
+fn blocks_told(rt: &impl Abort, alloc: Global, map: &Map) -> Result<Vec<[i16; 4]>, Fail> {
+    let edges = edges_of(alloc, map)?;
+    let list = EndedList::of(alloc, &edges, pieces_of(alloc, map)?)?;
+    let slices = list.as_slices();
+    holds(rt, slices.pieces.len() <= 60);
+    let mut boxes = Vec::new(alloc);
+    for found in &blocks_of(alloc, &edges, &slices)? {
+        let &Bounds {
+            top,
+            bottom,
+            left,
+            right,
+        } = found;
+        boxes.push([top, bottom, left, right])?;
+    }
+    Ok(boxes)
+}
+
+#[test]
+fn boxes_are_one_step_wider(rt: HostRuntime) -> Result<(), Fail> {
+    expect_rows(rt.alloc(), BLOCKS, |alloc, lines| {
+        said(
+            alloc,
+            &blocks_told(&rt, alloc, drawn(alloc, lines)?.current())?,
+        )
+    })
 }
 
 // How many of a map's pieces separate the others.

@@ -1,16 +1,16 @@
-//! Angles, points and offsets; pieces that are cut, and their boxes; numbered places.
+//! Angles, points and offsets; pieces that are cut; numbered places.
 
 use crate::drawing::drawn;
 use crate::expect::same;
-use lump_records::{Bounds, Vertex};
+use lump_records::Vertex;
 use map_tables::Map;
 use std::alloc::Global;
 use std::process::Abort;
 use std::test::Fail;
 use tests_rows::{expect_rows, number, said};
 use tree_pieces::{
-    Facing, Frac, Piece, Points, SegsError, angle16, boxes_in, divide, edges_of, offset, pieces_of,
-    point, side_of,
+    Facing, Frac, Piece, Points, SegsError, angle16, divide, edges_of, offset, pieces_of, point,
+    side_of,
 };
 
 // Vectors and their angles. Those of the longest diagonals are exact; close to an axis the last bit decides.
@@ -122,35 +122,6 @@ fn cut_told(alloc: Global, row: &str) -> Result<String, Fail> {
 #[test]
 fn pieces_are_cut(rt: HostRuntime) -> Result<(), Fail> {
     expect_rows(rt.alloc(), CUTS, cut_told)
-}
-
-// The box of each piece of the L: one step larger on each side than the box of its ends.
-const L_BOXES: &str =
-    "L|[[257, -1, -1, 1], [257, 255, -1, 129], [257, 127, 127, 129], [129, 127, 127, 257], \
-    [129, -1, 255, 257], [1, -1, -1, 257]]";
-
-// The boxes of a map's pieces, each as top, bottom, left and right.
-fn boxes_of(alloc: Global, map: &Map) -> Result<Vec<[i16; 4]>, Fail> {
-    let edges = edges_of(alloc, map)?;
-    let pieces = pieces_of(alloc, map)?;
-    let mut boxes = Vec::new(alloc);
-    for found in &boxes_in(alloc, &edges, &pieces)? {
-        let &Bounds {
-            top,
-            bottom,
-            left,
-            right,
-        } = found;
-        boxes.push([top, bottom, left, right])?;
-    }
-    Ok(boxes)
-}
-
-#[test]
-fn boxes_are_one_step_wider(rt: HostRuntime) -> Result<(), Fail> {
-    expect_rows(rt.alloc(), L_BOXES, |alloc, lines| {
-        said(alloc, &boxes_of(alloc, drawn(alloc, lines)?.current())?)
-    })
 }
 
 // The n-th of 32,768 different places.

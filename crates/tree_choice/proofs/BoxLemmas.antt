@@ -1,8 +1,8 @@
--- Wider boxes hold what the boxes in them hold, and a list of blocks grows one by one.
+-- Boxes hold places, ends and pieces, and the boxes of blocks and groups come one by one.
 use Rattle.std.proofs.Common.{◌≡◌, sym, ap, ◌∙◌, subst, ℕ, zero, suc, ◌+◌, ◌*◌, ◌-◌, ◌<◌, ◌≤◌, ⊎_elim, min, List, [], ◌∷◌, ◌++◌, length, take, drop, get_or, Some, arith, All, slice_get}
 use Rattle.std.proofs.lemmas.Bool.{cases_lt}
-use Rattle.std.proofs.lemmas.List.{take_all, length-drop, length-map, take-map, drop-map}
-use Rattle.std.proofs.lemmas.List.Elements.{All-nil, All-cons, All-head, All-tail, All-get_or}
+use Rattle.std.proofs.lemmas.List.{take_all, length-drop, length-take, drop-drop, get_or-take, get_or-drop}
+use Rattle.std.proofs.lemmas.List.Elements.{All-nil, All-cons, All-head, All-tail, All-get_or, All-append}
 use Rattle.std.specs.Prelude.{pos}
 use Rattle.lump_records.specs.declared.records.Bounds.{Bounds}
 use Rattle.lump_records.specs.declared.records.Vertex.{Vertex}
@@ -11,14 +11,14 @@ use Rattle.tree_pieces.specs.declared.edge.Edge.{Edge}
 use Rattle.tree_pieces.specs.declared.edge.Facing.TheVariants.{Along}
 use Rattle.tree_pieces.specs.declared.frac.Frac.{Frac}
 use Rattle.tree_pieces.specs.declared.piece.Piece.{Piece}
-use Rattle.tree_pieces.specs.Boxes.{IsWellIn, HoldsPiece, box_of, boxes_of}
-use Rattle.tree_pieces.proofs.Steps.{box_holds}
-use Rattle.tree_pieces.specs.Pieces.{IsPiece}
-use Rattle.tree_choice.specs.Blocks.{AreBlocks, AreGroups, IsWithinBox}
-use Rattle.tree_choice.proofs.Best.{before_within}
+use Rattle.tree_pieces.specs.Boxes.{IsWellIn, HoldsPiece}
+use Rattle.tree_pieces.specs.Pieces.{IsPiece, first_end, last_end}
+use Rattle.tree_choice.specs.Blocks.{AreBlocks, AreGroups, IsWithinBox, HoldsPlace}
+use Rattle.tree_choice.proofs.Best.{before_within, stands_at}
+use Rattle.tree_choice.proofs.OpenBlocks.{front}
 
 -- ---- a box within a box
-within_within : (a b c : Bounds) → IsWithinBox a b → IsWithinBox b c → IsWithinBox a c
+pub within_within : (a b c : Bounds) → IsWithinBox a b → IsWithinBox b c → IsWithinBox a c
 within_within a b c v w =
     let vl = v.left in
     let vr = v.right in
@@ -45,24 +45,64 @@ well_in_wider a b v w h =
 pub holds_wider : (lines : List Edge) (a b : Bounds) (p : Piece) → IsWithinBox a b → HoldsPiece lines a p → HoldsPiece lines b p
 holds_wider lines a b p w h = record { first = well_in_wider a b _ w h.first; last = well_in_wider a b _ w h.last }
 
+-- and the places in them
+pub place_wider : (a b : Bounds) (v : Vertex) → IsWithinBox a b → HoldsPlace a v → HoldsPlace b v
+place_wider a b v w h =
+    let wl = w.left in
+    let wr = w.right in
+    let wb = w.bottom in
+    let wt = w.top in
+    let hl = h.left in
+    let hr = h.right in
+    let hb = h.bottom in
+    let ht = h.top in
+    record { left = omega (arith, linear); right = omega (arith, linear); bottom = omega (arith, linear); top = omega (arith, linear) }
+
+-- what is so of the first elements, and of one more
+pub one_more : {X : Type 0} (P Q : X → Type 0) → ((x : X) → P x → Q x) → (xs : List X) (n : ℕ) (d : X) → n < length xs
+    → All P (take n xs) → Q (get_or xs n d) → All Q (take (n + 1) xs)
+one_more {X} P Q f xs n d h all one = let e : suc n ≡ n + 1 = omega arith in subst (λ (i : ℕ). All Q (take i xs)) e (first xs n h all one)
+  where
+    first : (xs : List X) (n : ℕ) → n < length xs → All P (take n xs) → Q (get_or xs n d) → All Q (take (suc n) xs)
+    first [] n h all one = absurd (omega arith)
+    first (x ∷ xs) zero h all one = All-cons Q x [] one (All-nil Q)
+    first (x ∷ xs) (suc n) h all one =
+        All-cons Q x (take (suc n) xs) (f x (All-head P x (take n xs) all))
+        (first xs n (omega arith) (All-tail P x (take n xs) all) one)
+
 -- one more box in the box round the first ones
 pub one_more_within : (a b : Bounds) (xs : List Bounds) (n : ℕ) (d : Bounds) → IsWithinBox a b → n < length xs
     → All (λ x. IsWithinBox x a) (take n xs) → IsWithinBox (get_or xs n d) b
     → All (λ x. IsWithinBox x b) (take (n + 1) xs)
-one_more_within a b xs n d w h all one = let e : suc n ≡ n + 1 = omega arith in subst (λ (i : ℕ). All (λ x. IsWithinBox x b) (take i xs)) e (front xs n h all one)
-  where
-    front : (xs : List Bounds) (n : ℕ) → n < length xs → All (λ x. IsWithinBox x a) (take n xs) → IsWithinBox (get_or xs n d) b → All (λ x. IsWithinBox x b) (take (suc n) xs)
-    front [] n h all one = absurd (omega arith)
-    front (x ∷ xs) zero h all one = All-cons (λ (y : Bounds). IsWithinBox y b) x [] one (All-nil (λ (y : Bounds). IsWithinBox y b))
-    front (x ∷ xs) (suc n) h all one =
-        All-cons (λ (y : Bounds). IsWithinBox y b) x (take (suc n) xs) (within_within x a b (All-head (λ (y : Bounds). IsWithinBox y a) x (take n xs) all) w)
-        (front xs n (omega arith) (All-tail (λ (y : Bounds). IsWithinBox y a) x (take n xs) all) one)
+one_more_within a b xs n d w h all one = one_more (λ (x : Bounds). IsWithinBox x a) (λ (x : Bounds). IsWithinBox x b) (λ x k. within_within x a b k w) xs n d h all one
+
+-- the box holds both rounded ends of the piece
+pub record HoldsEnds (lines : List Edge) (b : Bounds) (p : Piece) : Type 0 where
+  pub first : HoldsPlace b (first_end lines p)
+  pub last : HoldsPlace b (last_end lines p)
+
+-- the ends of one more piece in the box round the first ones
+pub one_more_ends : (lines : List Edge) (a b : Bounds) (ps : List Piece) (n : ℕ) (d : Piece) → IsWithinBox a b → n < length ps
+    → All (HoldsEnds lines a) (take n ps) → HoldsEnds lines b (get_or ps n d)
+    → All (HoldsEnds lines b) (take (n + 1) ps)
+one_more_ends lines a b ps n d w h all one =
+    one_more (HoldsEnds lines a) (HoldsEnds lines b)
+    (λ p k. record { first = place_wider a b (first_end lines p) w k.first; last = place_wider a b (last_end lines p) w k.last })
+    ps n d h all one
+
+-- a wider box holds the pieces whose ends the box holds
+pub all_well_in : (lines : List Edge) (a b : Bounds) → ((v : Vertex) → HoldsPlace a v → IsWellIn b v) → (ps : List Piece) → All (HoldsEnds lines a) ps → All (HoldsPiece lines b) ps
+all_well_in lines a b f [] all = All-nil (HoldsPiece lines b)
+all_well_in lines a b f (p ∷ ps) all =
+    let h = All-head (HoldsEnds lines a) p ps all in
+    All-cons (HoldsPiece lines b) p ps (record { first = f (first_end lines p) h.first; last = f (last_end lines p) h.last })
+    (all_well_in lines a b f ps (All-tail (HoldsEnds lines a) p ps all))
 
 -- ---- the blocks of a list
--- the first boxes of blocks are made
-pub record AreFirstBlocks (boxes blocks : List Bounds) (n : ℕ) : Type 0 where
+-- the boxes of the first blocks are made
+pub record AreFirstBlocks (lines : List Edge) (ps : List Piece) (blocks : List Bounds) (n : ℕ) : Type 0 where
   pub made : length blocks ≡ n
-  pub holds : (k : ℕ) (b : Bounds) → slice_get blocks k ≡ Some b → All (λ a. IsWithinBox a b) (take 16 (drop (16 * k) boxes))
+  pub holds : (k : ℕ) (b : Bounds) → slice_get blocks k ≡ Some b → All (HoldsPiece lines b) (take 16 (drop (16 * k) ps))
 
 -- what stands in a list with one more element
 stands_in : {X : Type 0} (xs : List X) (y : X) (k : ℕ) (x : X) → slice_get (xs ++ (y ∷ [])) k ≡ Some x
@@ -82,18 +122,17 @@ block_is xs n m h e =
     let l = length-drop (16 * n) xs in
     shorter_block (drop (16 * n) xs) (m - 16 * n) (omega arith) (λ j. omega arith)
 
-pub one_more_block : (boxes blocks : List Bounds) (n m : ℕ) (b : Bounds) → AreFirstBlocks boxes blocks n
-    → 16 * n ≤ length boxes → m ≡ min (16 * n + 16) (length boxes)
-    → All (λ a. IsWithinBox a b) (take (m - 16 * n) (drop (16 * n) boxes))
-    → AreFirstBlocks boxes (blocks ++ (b ∷ [])) (n + 1)
-one_more_block boxes blocks n m b k h e all =
+pub one_more_block : (lines : List Edge) (ps : List Piece) (blocks : List Bounds) (n m : ℕ) (b : Bounds) → AreFirstBlocks lines ps blocks n
+    → 16 * n ≤ length ps → m ≡ min (16 * n + 16) (length ps)
+    → All (HoldsPiece lines b) (take (m - 16 * n) (drop (16 * n) ps))
+    → AreFirstBlocks lines ps (blocks ++ (b ∷ [])) (n + 1)
+one_more_block lines ps blocks n m b k h e all =
     let made = k.made in
-    let here : All (λ a. IsWithinBox a b) (take 16 (drop (16 * n) boxes)) = subst (All (λ (a : Bounds). IsWithinBox a b)) (block_is boxes n m h e) all in
+    let here : All (HoldsPiece lines b) (take 16 (drop (16 * n) ps)) = subst (All (HoldsPiece lines b)) (block_is ps n m h e) all in
     record {
       made = longer blocks ∙ ap (λ (i : ℕ). i + 1) made;
-      holds = λ j x at. stands_in blocks b j x at (λ i y.
-          All (λ a. IsWithinBox a y) (take 16 (drop (16 * i) boxes))) k.holds
-          (subst (λ (i : ℕ). All (λ a. IsWithinBox a b) (take 16 (drop (16 * i) boxes))) (sym made) here);
+      holds = λ j x at. stands_in blocks b j x at (λ i y. All (HoldsPiece lines y) (take 16 (drop (16 * i) ps))) k.holds
+          (subst (λ (i : ℕ). All (HoldsPiece lines b) (take 16 (drop (16 * i) ps))) (sym made) here);
     }
   where
     longer : (xs : List Bounds) → length (xs ++ (b ∷ [])) ≡ length xs + 1
@@ -101,16 +140,15 @@ one_more_block boxes blocks n m b k h e all =
     longer (x ∷ xs) = let r = longer xs in omega arith
 
 -- ---- the groups of a list
-pub one_more_group : (boxes groups : List Bounds) (n : ℕ) (b : Bounds) → AreGroups boxes groups → length groups ≡ n
-    → 256 * n + 256 ≤ length boxes → All (λ a. IsWithinBox a b) (take 256 (drop (256 * n) boxes))
-    → AreGroups boxes (groups ++ (b ∷ []))
-one_more_group boxes groups n b k made h all =
+pub one_more_group : (lines : List Edge) (ps : List Piece) (groups : List Bounds) (n : ℕ) (b : Bounds) → AreGroups lines ps groups → length groups ≡ n
+    → 256 * n + 256 ≤ length ps → All (HoldsPiece lines b) (take 256 (drop (256 * n) ps))
+    → AreGroups lines ps (groups ++ (b ∷ []))
+one_more_group lines ps groups n b k made h all =
     let l = longer groups b in
     record {
       within = omega arith;
-      holds = λ j x at. stands_in groups b j x at (λ i y.
-          All (λ a. IsWithinBox a y) (take 256 (drop (256 * i) boxes))) k.holds
-          (subst (λ (i : ℕ). All (λ a. IsWithinBox a b) (take 256 (drop (256 * i) boxes))) (sym made) all);
+      holds = λ j x at. stands_in groups b j x at (λ i y. All (HoldsPiece lines y) (take 256 (drop (256 * i) ps))) k.holds
+          (subst (λ (i : ℕ). All (HoldsPiece lines b) (take 256 (drop (256 * i) ps))) (sym made) all);
     }
   where
     longer : (xs : List Bounds) (y : Bounds) → length (xs ++ (y ∷ [])) ≡ length xs + 1
@@ -129,26 +167,39 @@ no_piece = let zero : Frac = record { n = pos 0; d = pos 0 } in record { line = 
 pub piece_before : (lines : List Edge) (ps : List Piece) (i n : ℕ) (p : Piece) → i < n → slice_get ps n ≡ Some p → All (IsPiece lines) ps → IsPiece lines (get_or ps i no_piece)
 piece_before lines ps i n p h e all = All-get_or (IsPiece lines) ps i no_piece (before_within ps i n p h e) all
 
-module _ (lines : List Edge) where
-  pub boxes_length : (ps : List Piece) (boxes : List Bounds) → boxes ≡ boxes_of lines ps → length boxes ≡ length ps
-  boxes_length ps boxes e = ap length e ∙ length-map ps (box_of lines)
+module _ (lines : List Edge) (ps : List Piece) where
+  all_wider : (a b : Bounds) → IsWithinBox a b → (qs : List Piece) → All (HoldsPiece lines a) qs → All (HoldsPiece lines b) qs
+  all_wider a b w [] all = All-nil (HoldsPiece lines b)
+  all_wider a b w (q ∷ qs) all = All-cons (HoldsPiece lines b) q qs (holds_wider lines a b q w (All-head (HoldsPiece lines a) q qs all)) (all_wider a b w qs (All-tail (HoldsPiece lines a) q qs all))
 
-  all_in : (b : Bounds) (ps : List Piece) → All (λ a. IsWithinBox a b) (boxes_of lines ps) → All (HoldsPiece lines b) ps
-  all_in b [] all = All-nil (HoldsPiece lines b)
-  all_in b (p ∷ ps) all =
-      All-cons (HoldsPiece lines b) p ps (holds_wider lines (box_of lines p) b p (All-head (λ (a : Bounds). IsWithinBox a b) (box_of lines p) (boxes_of lines ps) all) (box_holds lines p))
-      (all_in b ps (All-tail (λ (a : Bounds). IsWithinBox a b) (box_of lines p) (boxes_of lines ps) all))
+  -- a box that holds the pieces of each of some blocks holds them all
+  run_holds : (b : Bounds) (m j : ℕ) → ((i : ℕ) → i < m → All (HoldsPiece lines b) (take 16 (drop (16 * (j + i)) ps))) → All (HoldsPiece lines b) (take (16 * m) (drop (16 * j) ps))
+  run_holds b zero j f = let e : 0 ≡ 16 * zero = omega arith in subst (λ (i : ℕ). All (HoldsPiece lines b) (take i (drop (16 * j) ps))) e (All-nil (HoldsPiece lines b))
+  run_holds b (suc m) j f =
+      let z : 16 * (j + 0) ≡ 16 * j = omega arith in
+      let s : 16 + 16 * m ≡ 16 * suc m = omega arith in
+      let d : 16 * j + 16 ≡ 16 * (j + 1) = omega arith in
+      let first = subst (λ (i : ℕ). All (HoldsPiece lines b) (take 16 (drop i ps))) z (f 0 (omega arith)) in
+      let rest = run_holds b m (j + 1) (λ i h. let e : j + suc i ≡ j + 1 + i = omega arith in subst (λ (k : ℕ). All (HoldsPiece lines b) (take 16 (drop (16 * k) ps))) e (f (suc i) (omega arith))) in
+      let there = subst (λ (qs : List Piece). All (HoldsPiece lines b) (take (16 * m) qs)) (sym (drop-drop 16 (16 * j) ps ∙ ap (λ (i : ℕ). drop i ps) d)) rest in
+      subst (λ (i : ℕ). All (HoldsPiece lines b) (take i (drop (16 * j) ps))) s
+      (subst (All (HoldsPiece lines b)) (front 16 (16 * m) (drop (16 * j) ps)) (All-append (HoldsPiece lines b) (take 16 (drop (16 * j) ps)) (take (16 * m) (drop 16 (drop (16 * j) ps))) first there))
 
-  -- the boxes of a part of a list are that part of its boxes
-  pub part_boxes : (ps : List Piece) (n j : ℕ) → take n (drop j (boxes_of lines ps)) ≡ boxes_of lines (take n (drop j ps))
-  part_boxes ps n j = ap (take n) (drop-map (box_of lines) j ps) ∙ take-map (box_of lines) n (drop j ps)
-
-  -- the box of a block holds its pieces
-  pub block_holds : (ps : List Piece) (blocks : List Bounds) (k : ℕ) (b : Bounds) → AreBlocks (boxes_of lines ps) blocks
-      → slice_get blocks k ≡ Some b → All (HoldsPiece lines b) (take 16 (drop (16 * k) ps))
-  block_holds ps blocks k b are at = all_in b (take 16 (drop (16 * k) ps)) (subst (All (λ (a : Bounds). IsWithinBox a b)) (part_boxes ps 16 (16 * k)) (are.holds k b at))
-
-  -- and that of a group its pieces
-  pub group_holds : (ps : List Piece) (groups : List Bounds) (k : ℕ) (b : Bounds) → AreGroups (boxes_of lines ps) groups
-      → slice_get groups k ≡ Some b → All (HoldsPiece lines b) (take 256 (drop (256 * k) ps))
-  group_holds ps groups k b are at = all_in b (take 256 (drop (256 * k) ps)) (subst (All (λ (a : Bounds). IsWithinBox a b)) (part_boxes ps 256 (256 * k)) (are.holds k b at))
+  -- the box round sixteen boxes of blocks holds the pieces of their group
+  pub group_round : (blocks : List Bounds) (g : ℕ) (b : Bounds) → AreBlocks lines ps blocks → 256 * g + 256 ≤ length ps
+      → All (λ x. IsWithinBox x b) (take 16 (drop (16 * g) blocks)) → All (HoldsPiece lines b) (take 256 (drop (256 * g) ps))
+  group_round blocks g b are within all =
+      let e : 16 * (16 * g) ≡ 256 * g = omega arith in
+      subst (λ (i : ℕ). All (HoldsPiece lines b) (take 256 (drop i ps))) e (run_holds b 16 (16 * g) each)
+    where
+      each : (i : ℕ) → i < 16 → All (HoldsPiece lines b) (take 16 (drop (16 * (16 * g + i)) ps))
+      each i h =
+          let k = 16 * g + i in
+          let n = are.enough in
+          let x = get_or blocks k no_box in
+          let there : k < length blocks = omega arith in
+          let ld = length-drop (16 * g) blocks in
+          let lt = length-take 16 (drop (16 * g) blocks) in
+          let w = All-get_or (λ (x : Bounds). IsWithinBox x b) (take 16 (drop (16 * g) blocks)) i no_box (omega arith) all in
+          let same = get_or-take 16 (drop (16 * g) blocks) i no_box h ∙ get_or-drop (16 * g) blocks i no_box in
+          all_wider x b (subst (λ (y : Bounds). IsWithinBox y b) same w) (take 16 (drop (16 * k) ps)) (are.holds k x (stands_at blocks k no_box there))

@@ -15,3 +15,5 @@ pub mod ClearBlocks
 pub mod Known
 pub mod Exchanged
 pub mod Taking
+pub mod DrawnEnds
+pub mod Ended

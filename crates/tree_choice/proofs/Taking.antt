@@ -4,10 +4,7 @@ use Rattle.std.proofs.lemmas.List.{take_all}
 use Rattle.std.proofs.lemmas.List.Elements.{All-push}
 use Rattle.tree_pieces.specs.declared.edge.Edge.{Edge}
 use Rattle.tree_pieces.specs.declared.piece.Piece.{Piece}
-use Rattle.lump_records.specs.declared.records.Vertex.{Vertex}
-use Rattle.std.specs.Prelude.{map}
-use Rattle.tree_pieces.specs.Pieces.{IsPiece, first_end, last_end}
-use Rattle.tree_choice.specs.Columns.{AreEnds}
+use Rattle.tree_pieces.specs.Pieces.{IsPiece}
 use Rattle.tree_choice.specs.declared.exchange.Exchange.{Exchange}
 use Rattle.tree_choice.specs.declared.floors.Floor.{Floor}
 use Rattle.tree_choice.specs.declared.floors.Floor.TheVariants.{AtLeast}
@@ -97,15 +94,3 @@ taken_all ps floors part n x all both lost gained u = record {
   few_lost = lost;
   few_gained = gained;
 }
-
--- the ends that were noted of a list, read again
-pub ends_there : (lines : List Edge) (lost qs rs : List Piece) (firsts lasts fs ls : List Vertex) (n : ℕ) → qs ≡ lost
-    → rs ≡ lost → n ≡ length lost → fs ≡ firsts → ls ≡ lasts
-    → AreEnds lines qs (take (length qs) firsts) (take (length qs) lasts) → AreEnds lines rs (take n fs) (take n ls)
-ends_there lines lost qs rs firsts lasts fs ls n eq er en ef el a =
-    let size : n ≡ length qs = en ∙ sym (ap length eq) in
-    let same : qs ≡ rs = eq ∙ sym er in
-    record {
-      firsts_are = ap (λ k. take k fs) size ∙ ap (take (length qs)) ef ∙ a.firsts_are ∙ ap (map (first_end lines)) same;
-      lasts_are = ap (λ k. take k ls) size ∙ ap (take (length qs)) el ∙ a.lasts_are ∙ ap (map (last_end lines)) same;
-    }

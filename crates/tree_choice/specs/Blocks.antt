@@ -1,6 +1,11 @@
--- The boxes of a list of pieces in blocks of sixteen, each with a box round it, and in groups of sixteen blocks.
+-- The pieces of a list in blocks of sixteen, each with a box round it, and in groups of sixteen blocks.
 use Rattle.std.specs.Prelude.{◌≡◌, ℕ, ◌+◌, ◌*◌, ◌<◌, ◌≤◌, List, length, All, take, drop, slice_get, Some, ◌≤ℤ◌}
+use Rattle.lump_records.specs.Drawing.{IsCoordinate}
 use Rattle.lump_records.specs.declared.records.Bounds.{Bounds}
+use Rattle.lump_records.specs.declared.records.Vertex.{Vertex}
+use Rattle.tree_pieces.specs.declared.edge.Edge.{Edge}
+use Rattle.tree_pieces.specs.declared.piece.Piece.{Piece}
+use Rattle.tree_pieces.specs.Boxes.{HoldsPiece}
 
 -- the second box holds the first
 pub record IsWithinBox (a b : Bounds) : Type 0 where
@@ -9,15 +14,29 @@ pub record IsWithinBox (a b : Bounds) : Type 0 where
   pub left : b.left ≤ℤ a.left
   pub right : a.right ≤ℤ b.right
 
--- there are as many of these as the list has blocks, and each holds the sixteen boxes of its block
-pub record AreBlocks (boxes blocks : List Bounds) : Type 0 where
-  pub enough : length boxes ≤ 16 * length blocks
-  pub each_needed : 16 * length blocks < length boxes + 16
-  pub holds : (k : ℕ) (b : Bounds) → slice_get blocks k ≡ Some b →
-      All (λ a. IsWithinBox a b) (take 16 (drop (16 * k) boxes))
+-- the box holds the place
+pub record HoldsPlace (b : Bounds) (v : Vertex) : Type 0 where
+  pub top : v.y ≤ℤ b.top
+  pub bottom : b.bottom ≤ℤ v.y
+  pub left : b.left ≤ℤ v.x
+  pub right : v.x ≤ℤ b.right
 
--- each of these holds the boxes of a group of sixteen blocks of the list, the first of the first group
-pub record AreGroups (boxes groups : List Bounds) : Type 0 where
-  pub within : 256 * length groups ≤ length boxes
+-- each side of the box is a coordinate that a vertex may have
+pub record IsInnerBox (b : Bounds) : Type 0 where
+  pub top : IsCoordinate b.top
+  pub bottom : IsCoordinate b.bottom
+  pub left : IsCoordinate b.left
+  pub right : IsCoordinate b.right
+
+-- there are as many boxes as the list has blocks, and each holds the sixteen pieces of its block
+pub record AreBlocks (lines : List Edge) (ps : List Piece) (blocks : List Bounds) : Type 0 where
+  pub enough : length ps ≤ 16 * length blocks
+  pub each_needed : 16 * length blocks < length ps + 16
+  pub holds : (k : ℕ) (b : Bounds) → slice_get blocks k ≡ Some b →
+      All (HoldsPiece lines b) (take 16 (drop (16 * k) ps))
+
+-- each box holds the pieces of a group of sixteen blocks of the list, the first those of the first group
+pub record AreGroups (lines : List Edge) (ps : List Piece) (groups : List Bounds) : Type 0 where
+  pub within : 256 * length groups ≤ length ps
   pub holds : (k : ℕ) (b : Bounds) → slice_get groups k ≡ Some b →
-      All (λ a. IsWithinBox a b) (take 256 (drop (256 * k) boxes))
+      All (HoldsPiece lines b) (take 256 (drop (256 * k) ps))

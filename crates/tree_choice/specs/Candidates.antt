@@ -3,7 +3,6 @@ use Rattle.std.specs.Prelude.{◌≡◌, ◌<◌, ◌^◌, List, length, All}
 use Rattle.tree_pieces.specs.declared.edge.Edge.{Edge}
 use Rattle.tree_pieces.specs.declared.piece.Piece.{Piece}
 use Rattle.tree_pieces.specs.Pieces.{IsPiece, ray_of}
-use Rattle.tree_pieces.specs.Boxes.{boxes_of}
 use Rattle.tree_choice.specs.declared.candidate.Candidate.{Candidate}
 use Rattle.tree_choice.specs.declared.candidate.NotedPieces.{NotedPieces}
 use Rattle.tree_choice.specs.declared.counts.Counts.{Counts}
@@ -11,7 +10,7 @@ use Rattle.tree_choice.specs.declared.ends.EndedPieces.{EndedPieces}
 use Rattle.tree_choice.specs.declared.sorting.Blocks.{Blocks}
 use Rattle.tree_choice.specs.Counts.{AreCounts}
 use Rattle.tree_choice.specs.Sights.{AreMargins}
-use Rattle.tree_choice.specs.Columns.{AreEnds, HoldsEnds, HoldsBoxes, AreCorners}
+use Rattle.tree_choice.specs.Columns.{AreEnds, HoldsBoxes, AreCorners}
 use Rattle.tree_choice.specs.Blocks.{AreBlocks, AreGroups}
 
 -- the candidate is a piece of the lines, and its margins are those of its ray
@@ -33,14 +32,14 @@ pub record AreEnded (lines : List Edge) (list : EndedPieces) : Type 0 where
 pub record AreBoxed (by : Candidate) (blocks : Blocks) : Type 0 where
   pub each : All (IsPiece by.lines.now) blocks.pieces.now
   pub few : length blocks.pieces.now < 2 ^ 32
-  pub boxes : AreBlocks (boxes_of by.lines.now blocks.pieces.now) blocks.boxes.now
+  pub boxes : AreBlocks by.lines.now blocks.pieces.now blocks.boxes.now
   pub corners : AreCorners by.margins.ray blocks.boxes.now blocks.lows.now blocks.highs.now
 
 -- pieces of the lines, with all that is noted of them for every candidate
 pub record AreNoted (lines : List Edge) (list : NotedPieces) : Type 0 where
   pub each : All (IsPiece lines) list.pieces.now
   pub few : length list.pieces.now < 2 ^ 32
-  pub ends : HoldsEnds lines list.pieces.now list.ends.now
-  pub blocks : AreBlocks (boxes_of lines list.pieces.now) list.blocks.now
+  pub ends : AreEnds lines list.pieces.now list.firsts.now list.lasts.now
+  pub blocks : AreBlocks lines list.pieces.now list.blocks.now
   pub corners : HoldsBoxes list.blocks.now list.corners.now
-  pub groups : AreGroups (boxes_of lines list.pieces.now) list.groups.now
+  pub groups : AreGroups lines list.pieces.now list.groups.now

@@ -8,22 +8,16 @@ use Rattle.tree_pieces.specs.declared.piece.Piece.{Piece}
 use Rattle.tree_pieces.specs.Pieces.{first_end, last_end}
 use Rattle.tree_choice.specs.Sights.{low_corner, high_corner}
 use Rattle.tree_choice.specs.declared.corner_columns.BoxColumns.{BoxColumns}
-use Rattle.tree_choice.specs.declared.ends.EndColumns.{EndColumns}
+use Rattle.tree_choice.specs.declared.ends.EndedList.{EndedList}
 
 -- the columns hold the ends of each piece, in the list's order
 pub record AreEnds (lines : List Edge) (ps : List Piece) (firsts lasts : List Vertex) : Type 0 where
   pub firsts_are : firsts ≡ map (first_end lines) ps
   pub lasts_are : lasts ≡ map (last_end lines) ps
 
--- so do the heads of these
-abbrev pub HoldsEnds : List Edge → List Piece → EndColumns → Type 0
-HoldsEnds lines ps columns =
-    AreEnds lines ps (take (length ps) columns.firsts.items) (take (length ps) columns.lasts.items)
-
--- each column has so many places, or more
-pub record IsWideEnough (columns : EndColumns) (n : ℕ) : Type 0 where
-  pub firsts : n ≤ length columns.firsts.items
-  pub lasts : n ≤ length columns.lasts.items
+-- so do those of the list
+abbrev pub IsEnded : List Edge → EndedList → Type 0
+IsEnded lines list = AreEnds lines list.pieces.items list.firsts.items list.lasts.items
 
 -- ---- boxes
 -- the four corners of a box

@@ -2,12 +2,12 @@
 ghost use Rattle.std.specs.Prelude.{◌≡◌, ◌≤◌, ◌<◌, ◌^◌, length, All, IfSome};
 ghost use Rattle.std.specs.List.Sorted.{IsPermutation};
 ghost use Rattle.tree_pieces.specs.Pieces.{IsPiece};
-ghost use Rattle.tree_pieces.specs.Boxes.{boxes_of};
 ghost use Rattle.tree_choice.specs.Blocks.{AreBlocks, AreGroups};
-ghost use Rattle.tree_choice.specs.Columns.{HoldsEnds, HoldsBoxes};
+ghost use Rattle.tree_choice.specs.Columns.{AreEnds, HoldsBoxes};
 ghost use Rattle.tree_choice.specs.SoFar.{IsBound};
 
 use crate::candidate::NotedPieces;
+use crate::ends::EndedPieces;
 use crate::floors::Floor;
 use crate::straight::StraightLines;
 use crate::walk::count_by_boxes;
@@ -51,23 +51,23 @@ fn least_known(pieces: &[Piece], used: &[bool], floors: &[Floor]) -> usize {
 pub(crate) fn bound_of(
     lines: &Lines,
     pieces: &[Piece],
-    ordered: &[Piece],
+    ordered: &EndedPieces,
     blocks: &[Bounds],
     used: &[bool],
     straight: &mut StraightLines,
     floors: &[Floor],
 ) -> u64
     requires pieces { All (IsPiece lines.now) pieces.now }
-    requires ordered { IsPermutation pieces.now ordered.now }
-    requires blocks { AreBlocks (boxes_of lines.now ordered.now) blocks.now }
+    requires ordered { IsPermutation pieces.now ordered.now.pieces.now }
+    requires blocks { AreBlocks lines.now ordered.now.pieces.now blocks.now }
     requires known { length used.now ≡ length lines.now }
     requires few { length pieces.now < 2 ^ 32 }
-    requires noted { HoldsEnds lines.now ordered.now straight.old.ends }
+    requires ends { AreEnds lines.now ordered.now.pieces.now ordered.now.firsts.now
+        ordered.now.lasts.now }
     requires sides { HoldsBoxes blocks.now straight.old.sides }
-    requires groups { AreGroups (boxes_of lines.now ordered.now) straight.old.groups.items }
+    requires groups { AreGroups lines.now ordered.now.pieces.now straight.old.groups.items }
     requires room { length blocks.now ≤ length straight.old.noted.items }
     ensures bound { IsBound lines.now pieces.now used.now result }
-    ensures ends { straight.new.ends ≡ straight.old.ends }
     ensures sides { straight.new.sides ≡ straight.old.sides }
     ensures groups { straight.new.groups ≡ straight.old.groups }
     ensures room { length straight.new.noted.items ≡ length straight.old.noted.items }
@@ -77,8 +77,9 @@ pub(crate) fn bound_of(
         return u64::MAX;
     }
     let list = NotedPieces {
-        pieces: ordered,
-        ends: &straight.ends,
+        pieces: ordered.pieces,
+        firsts: ordered.firsts,
+        lasts: ordered.lasts,
         blocks,
         corners: &straight.sides,
         groups: &straight.groups,

@@ -1,11 +1,10 @@
 //! The side of a ray on which a box lies, by its corners with the least and the greatest side value.
 ghost use Rattle.std.specs.Prelude.{◌≡◌, true, pos, ◌<ℤ◌, if◌then◌else◌};
-ghost use Rattle.tree_pieces.specs.Local.{IsLineRay};
 ghost use Rattle.tree_pieces.specs.Plane.{vertex_value};
 ghost use Rattle.tree_pieces.specs.Boxes.{least_value, greatest_value};
 ghost use Rattle.tree_choice.specs.Sights.{AreMargins, IsNormal, low_corner, high_corner};
 
-use crate::margins::{Margins, Normal, margins_of, sides_of_place};
+use crate::margins::{Margins, Normal, sides_of_place};
 use lump_records::{Bounds, Ray, Vertex};
 use tree_pieces::Place;
 
@@ -96,14 +95,4 @@ pub(crate) fn side_of_box(margins: Margins, bounds: Bounds) -> Place
     } else {
         Place::Across
     }
-}
-
-/// The side of a ray on which a whole box lies, or `Across` if that isn't known. A piece whose ends lie a whole step
-/// inside the box goes to that side whole.
-pub fn box_side(ray: Ray, bounds: Bounds) -> Place
-    requires { IsLineRay ray }
-    ensures right { result ≡ Place.Right → pos 0 <ℤ least_value ray bounds }
-    ensures left { result ≡ Place.Left → greatest_value ray bounds <ℤ pos 0 }
-{
-    side_of_box(margins_of(ray), bounds)
 }

@@ -3,12 +3,12 @@ ghost use Rattle.std.specs.Prelude.{◌≡◌, ◌+◌, ◌≤◌, ◌<◌, ◌^
 ghost use Rattle.std.specs.List.Sorted.{IsPermutation};
 ghost use Rattle.tree_pieces.specs.Pieces.{IsPiece};
 ghost use Rattle.tree_pieces.specs.Tree.{HasNoChoice, cost};
-ghost use Rattle.tree_pieces.specs.Boxes.{boxes_of};
 ghost use Rattle.tree_choice.specs.Blocks.{AreBlocks, AreGroups};
+ghost use Rattle.tree_choice.specs.Candidates.{AreEnded};
 ghost use Rattle.tree_choice.specs.Counts.{AreCountsBelow};
 ghost use Rattle.tree_choice.specs.Choices.{IsChosen};
 ghost use Rattle.tree_choice.specs.SoFar.{SoFar, no_bound};
-ghost use Rattle.tree_choice.specs.Columns.{HoldsEnds, HoldsBoxes};
+ghost use Rattle.tree_choice.specs.Columns.{AreEnds, HoldsBoxes};
 ghost use Rattle.tree_choice.specs.Floors.{AreKnown};
 
 use crate::block_boxes::note_groups;
@@ -16,6 +16,7 @@ use crate::bound::bound_of;
 use crate::candidate::NotedPieces;
 use crate::choice::{Choice, limit_of, take_in};
 use crate::counts::count_below;
+use crate::ends::EndedPieces;
 use crate::floors::{Floor, far_limit, floor_at, note_floor};
 use crate::straight::StraightLines;
 use crate::walk::count_by_boxes;
@@ -66,7 +67,7 @@ pub fn choose_in(lines: &Lines, pieces: &[Piece], used: &[bool]) -> Option<Choic
 fn consider_ordered(
     lines: &Lines,
     pieces: &[Piece],
-    ordered: &[Piece],
+    ordered: &EndedPieces,
     blocks: &[Bounds],
     used: &[bool],
     bound: u64,
@@ -76,20 +77,20 @@ fn consider_ordered(
     straight: &mut StraightLines,
     floors: &mut [Floor],
 ) -> Option<Choice>
-    requires ordered { IsPermutation pieces.now ordered.now }
-    requires blocks { AreBlocks (boxes_of lines.now ordered.now) blocks.now }
+    requires ordered { IsPermutation pieces.now ordered.now.pieces.now }
+    requires ends { AreEnds lines.now ordered.now.pieces.now ordered.now.firsts.now
+        ordered.now.lasts.now }
+    requires blocks { AreBlocks lines.now ordered.now.pieces.now blocks.now }
     requires known { length used.now ≡ length lines.now }
     requires few { length pieces.now < 2 ^ 32 }
     requires piece { IsPiece lines.now piece.now }
     requires stands { slice_get pieces.now at ≡ Some piece.now }
-    requires noted { HoldsEnds lines.now ordered.now straight.old.ends }
     requires sides { HoldsBoxes blocks.now straight.old.sides }
-    requires groups { AreGroups (boxes_of lines.now ordered.now) straight.old.groups.items }
+    requires groups { AreGroups lines.now ordered.now.pieces.now straight.old.groups.items }
     requires room { length blocks.now ≤ length straight.old.noted.items }
     requires floors { AreKnown lines.now pieces.now floors.old }
     requires so_far { SoFar lines.now pieces.now used.now bound at best }
     ensures so_far { SoFar lines.now pieces.now used.now bound (at + 1) result }
-    ensures ends { straight.new.ends ≡ straight.old.ends }
     ensures sides { straight.new.sides ≡ straight.old.sides }
     ensures groups { straight.new.groups ≡ straight.old.groups }
     ensures room { length straight.new.noted.items ≡ length straight.old.noted.items }
@@ -108,8 +109,9 @@ fn consider_ordered(
         return best;
     }
     let list = NotedPieces {
-        pieces: ordered,
-        ends: &straight.ends,
+        pieces: ordered.pieces,
+        firsts: ordered.firsts,
+        lasts: ordered.lasts,
         blocks,
         corners: &straight.sides,
         groups: &straight.groups,
@@ -120,39 +122,35 @@ fn consider_ordered(
     take_in(at, best, limit, counted)
 }
 
-/// The same choice as `choose_in`, by what is known of the pieces, and by the boxes of the pieces and of blocks of
-/// sixteen of them. `floors` has what is known of the first pieces, or nothing; afterwards it has what is known of them
-/// then. A list of which nothing is remembered is chosen from sooner without floors, since with them each candidate is
-/// counted to the end. `straight` saves counts, whatever it holds. `ordered` holds the same pieces in any order, as
-/// `by_place` gives one, and the boxes are those of this list.
+/// The same choice as `choose_in`, by what is known of the pieces, by the boxes of blocks of sixteen of them, and by
+/// their rounded ends. `floors` has what is known of the first pieces, or nothing; afterwards it has what is known of
+/// them then. A list of which nothing is remembered is chosen from sooner without floors, since with them each
+/// candidate is counted to the end. `straight` saves counts, whatever it holds. `ordered` holds the same pieces in any
+/// order, as `by_place` gives one, and the boxes are those of this order.
 pub fn choose_above(
     lines: &Lines,
     pieces: &[Piece],
-    ordered: &[Piece],
-    boxes: &[Bounds],
+    ordered: &EndedPieces,
     blocks: &[Bounds],
     used: &[bool],
     straight: &mut StraightLines,
     floors: &mut [Floor],
 ) -> Option<Choice>
-    requires ordered { IsPermutation pieces.now ordered.now }
-    requires boxes { boxes.now ≡ boxes_of lines.now ordered.now }
-    requires blocks { AreBlocks boxes.now blocks.now }
+    requires ordered { IsPermutation pieces.now ordered.now.pieces.now }
+    requires ends { AreEnds lines.now ordered.now.pieces.now ordered.now.firsts.now
+        ordered.now.lasts.now }
+    requires blocks { AreBlocks lines.now ordered.now.pieces.now blocks.now }
     requires known { length used.now ≡ length lines.now }
     requires few { length pieces.now < 2 ^ 32 }
     requires floors { AreKnown lines.now pieces.now floors.old }
     ensures choice { IsChosen lines.now pieces.now used.now result }
     ensures floors { AreKnown lines.now pieces.now floors.new }
 {
-    if !straight.ends.has_room(ordered.len())
-        || !straight.sides.has_room(blocks.len())
-        || straight.noted.len() < blocks.len()
-    {
+    if !straight.sides.has_room(blocks.len()) || straight.noted.len() < blocks.len() {
         return choose_in(lines, pieces, used);
     }
-    straight.ends.note(lines, ordered);
     straight.sides.note(blocks);
-    note_groups(boxes, &mut straight.groups);
+    note_groups(lines, ordered.pieces, blocks, &mut straight.groups);
     let bound = bound_of(lines, pieces, ordered, blocks, used, straight, floors);
     let mut best = None;
     for (at, piece) in pieces.iter().enumerate() {
@@ -163,54 +161,43 @@ pub fn choose_above(
     best
 }
 
-/// The same choice as `choose_in`, by the boxes of the pieces and of blocks of sixteen of them.
-/// `straight` saves counts, whatever it holds. `ordered` holds the same pieces in any order, as
-/// `by_place` gives one, and the boxes are those of this list.
+/// The same choice as `choose_in`, by the boxes of blocks of sixteen pieces and by the pieces' rounded ends.
+/// `straight` saves counts, whatever it holds. `ordered` holds the same pieces in any order, as `by_place` gives one,
+/// and the boxes are those of this order.
 pub fn choose_ordered(
     lines: &Lines,
     pieces: &[Piece],
-    ordered: &[Piece],
-    boxes: &[Bounds],
+    ordered: &EndedPieces,
     blocks: &[Bounds],
     used: &[bool],
     straight: &mut StraightLines,
 ) -> Option<Choice>
     requires pieces { All (IsPiece lines.now) pieces.now }
-    requires ordered { IsPermutation pieces.now ordered.now }
-    requires boxes { boxes.now ≡ boxes_of lines.now ordered.now }
-    requires blocks { AreBlocks boxes.now blocks.now }
+    requires ordered { IsPermutation pieces.now ordered.now.pieces.now }
+    requires ends { AreEnds lines.now ordered.now.pieces.now ordered.now.firsts.now
+        ordered.now.lasts.now }
+    requires blocks { AreBlocks lines.now ordered.now.pieces.now blocks.now }
     requires known { length used.now ≡ length lines.now }
     requires few { length pieces.now < 2 ^ 32 }
     ensures { IsChosen lines.now pieces.now used.now result }
 {
-    choose_above(
-        lines,
-        pieces,
-        ordered,
-        boxes,
-        blocks,
-        used,
-        straight,
-        &mut [],
-    )
+    choose_above(lines, pieces, ordered, blocks, used, straight, &mut [])
 }
 
-/// The same choice as `choose_in`, by the boxes of the pieces and of blocks of sixteen of them.
-/// `straight` saves counts, whatever it holds.
+/// The same choice as `choose_in`, by the boxes of blocks of sixteen pieces and by the pieces' rounded ends. `straight`
+/// saves counts, whatever it holds.
 pub fn choose_in_boxes(
     lines: &Lines,
-    pieces: &[Piece],
-    boxes: &[Bounds],
+    list: &EndedPieces,
     blocks: &[Bounds],
     used: &[bool],
     straight: &mut StraightLines,
 ) -> Option<Choice>
-    requires pieces { All (IsPiece lines.now) pieces.now }
-    requires boxes { boxes.now ≡ boxes_of lines.now pieces.now }
-    requires blocks { AreBlocks boxes.now blocks.now }
+    requires list { AreEnded lines.now list.now }
+    requires blocks { AreBlocks lines.now list.now.pieces.now blocks.now }
     requires known { length used.now ≡ length lines.now }
-    requires few { length pieces.now < 2 ^ 32 }
-    ensures { IsChosen lines.now pieces.now used.now result }
+    requires few { length list.now.pieces.now < 2 ^ 32 }
+    ensures { IsChosen lines.now list.now.pieces.now used.now result }
 {
-    choose_ordered(lines, pieces, pieces, boxes, blocks, used, straight)
+    choose_ordered(lines, list.pieces, list, blocks, used, straight)
 }

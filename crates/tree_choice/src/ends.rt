@@ -1,57 +1,90 @@
-//! The rounded ends of pieces, noted once for all candidates of a list.
-ghost use Rattle.std.specs.Prelude.{◌≡◌, ◌≤◌, length, take, drop, All, true, IfOk};
+//! Pieces with their rounded ends beside them.
+ghost use Rattle.std.specs.Prelude.{◌≡◌, ◌++◌, ◌∷◌, [], All, IfOk, OnOk};
 ghost use Rattle.tree_pieces.specs.Pieces.{IsPiece};
+ghost use Rattle.tree_choice.specs.Columns.{IsEnded};
 
 use lump_records::Vertex;
 use std::alloc::{AllocError, Global};
-use tree_pieces::{Lines, Piece};
+use tree_pieces::{Ends, Lines, Piece};
 
-/// The rounded ends of pieces: the first ends in one column and the last ones in another, so that a machine can test
-/// several pieces at once.
+/// A list of pieces with their rounded ends: the first ends in one column and the last ones in another, so that a
+/// machine can test several pieces at once. A piece that a partition leaves whole keeps its ends.
 #[derive(Drop)]
-pub(crate) struct EndColumns {
+pub struct EndedList {
+    pub pieces: Vec<Piece>,
     pub firsts: Vec<Vertex>,
     pub lasts: Vec<Vertex>,
 }
 
 /// Pieces with their rounded ends, in columns beside them.
 #[derive(Clone, Copy)]
-pub(crate) struct EndedPieces<'a> {
+pub struct EndedPieces<'a> {
     pub pieces: &'a [Piece],
     pub firsts: &'a [Vertex],
     pub lasts: &'a [Vertex],
 }
 
-impl EndColumns {
-    ghost use Rattle.tree_choice.specs.Columns.{IsWideEnough, HoldsEnds};
-
-    /// Room for the ends of so many pieces.
-    pub(crate) fn with_room(alloc: Global, count: usize) -> Result<EndColumns, AllocError>
-        ensures { IfOk result (λ columns. IsWideEnough columns count) }
+impl EndedList {
+    /// An empty list with room for so many pieces.
+    pub fn with_room(alloc: Global, count: usize) -> Result<EndedList, AllocError>
+        ensures pieces { IfOk result (λ list. list.pieces.items ≡ []) }
+        ensures firsts { IfOk result (λ list. list.firsts.items ≡ []) }
+        ensures lasts { IfOk result (λ list. list.lasts.items ≡ []) }
     {
-        let nowhere = Vertex { x: 0, y: 0 };
-        let firsts = Vec::from_elem(alloc, nowhere, count)?;
-        let lasts = Vec::from_elem(alloc, nowhere, count)?;
-        Ok(EndColumns { firsts, lasts })
+        let pieces = Vec::with_capacity(alloc, count)?;
+        let firsts = Vec::with_capacity(alloc, count)?;
+        let lasts = Vec::with_capacity(alloc, count)?;
+        Ok(EndedList {
+            pieces,
+            firsts,
+            lasts,
+        })
     }
 
-    /// Whether there is room for the ends of so many pieces.
-    pub(crate) fn has_room(&self, count: usize) -> bool
-        ensures { result ≡ true → IsWideEnough self.now count }
+    /// These pieces, each with its rounded ends.
+    pub fn of(alloc: Global, lines: &Lines, pieces: Vec<Piece>) -> Result<EndedList, AllocError>
+        requires { All (IsPiece lines.now) pieces.items }
+        ensures pieces { IfOk result (λ list. list.pieces.items ≡ pieces.items) }
+        ensures ends { IfOk result (IsEnded lines.now) }
     {
-        count <= self.firsts.len() && count <= self.lasts.len()
-    }
-
-    /// Notes the rounded ends of each piece of a list at the head of the columns.
-    pub(crate) fn note(&mut self, lines: &Lines, pieces: &[Piece])
-        requires pieces { All (IsPiece lines.now) pieces.now }
-        requires room { IsWideEnough self.old (length pieces.now) }
-        ensures { HoldsEnds lines.now pieces.now self.new }
-    {
-        for (n, piece) in pieces.iter().enumerate() {
+        let mut firsts = Vec::with_capacity(alloc, pieces.len())?;
+        let mut lasts = Vec::with_capacity(alloc, pieces.len())?;
+        for piece in &pieces {
             let ends = lines.ends_of(piece);
-            self.firsts[n] = ends.first;
-            self.lasts[n] = ends.last;
+            firsts.push(ends.first)?;
+            lasts.push(ends.last)?;
+        }
+        Ok(EndedList {
+            pieces,
+            firsts,
+            lasts,
+        })
+    }
+
+    /// Appends a piece with its rounded ends.
+    pub fn push(&mut self, piece: Piece, ends: Ends) -> Result<(), AllocError>
+        ensures pieces { OnOk result (self.new.pieces.items ≡ self.old.pieces.items ++ piece ∷ []) }
+        ensures firsts { OnOk result
+            (self.new.firsts.items ≡ self.old.firsts.items ++ ends.first ∷ []) }
+        ensures lasts { OnOk result
+            (self.new.lasts.items ≡ self.old.lasts.items ++ ends.last ∷ []) }
+    {
+        self.pieces.push(piece)?;
+        self.firsts.push(ends.first)?;
+        self.lasts.push(ends.last)?;
+        Ok(())
+    }
+
+    /// The list as slices.
+    pub fn as_slices(&self) -> EndedPieces<'_>
+        ensures pieces { result.pieces.now ≡ self.now.pieces.items }
+        ensures firsts { result.firsts.now ≡ self.now.firsts.items }
+        ensures lasts { result.lasts.now ≡ self.now.lasts.items }
+    {
+        EndedPieces {
+            pieces: &self.pieces,
+            firsts: &self.firsts,
+            lasts: &self.lasts,
         }
     }
 }

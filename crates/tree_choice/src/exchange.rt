@@ -10,9 +10,8 @@ ghost use Rattle.tree_choice.specs.Exchanges.{IsUnderWay, IsExchangeOf};
 
 use crate::block_boxes::BLOCK;
 use crate::candidate::Candidate;
-use crate::ends::{EndColumns, EndedPieces};
+use crate::ends::{EndedList, EndedPieces};
 use crate::floors::{Floor, floor_at};
-use crate::margins::margins_of;
 use crate::walk::count_list;
 use std::alloc::{AllocError, Global};
 use tree_pieces::{Frac, Lines, Piece};
@@ -127,11 +126,7 @@ fn known_in_part(
     if known.says_nothing() {
         return Floor::AtLeast(0);
     }
-    let by = Candidate {
-        lines,
-        piece,
-        margins: margins_of(lines.ray_of(piece)),
-    };
+    let by = Candidate::of(lines, piece);
     match count_list(&by, gone, u64::MAX) {
         None => Floor::AtLeast(0),
         Some(lost) => match count_list(&by, new, u64::MAX) {
@@ -185,20 +180,19 @@ pub fn floors_of_part(
         None => return Ok(Vec::new(alloc)),
         Some(exchange) => exchange,
     };
-    let (lost, gained) = (exchange.lost.len(), exchange.gained.len());
-    let mut gone_ends = EndColumns::with_room(alloc, lost)?;
-    let mut new_ends = EndColumns::with_room(alloc, gained)?;
-    gone_ends.note(lines, &exchange.lost);
-    new_ends.note(lines, &exchange.gained);
-    let gone = EndedPieces {
-        pieces: &exchange.lost,
-        firsts: &gone_ends.firsts[..lost],
-        lasts: &gone_ends.lasts[..lost],
-    };
-    let new = EndedPieces {
-        pieces: &exchange.gained,
-        firsts: &new_ends.firsts[..gained],
-        lasts: &new_ends.lasts[..gained],
-    };
-    known_in_all(alloc, lines, part, &exchange.floors, &gone, &new)
+    let Exchange {
+        lost,
+        gained,
+        floors: known,
+    } = exchange;
+    let gone = EndedList::of(alloc, lines, lost)?;
+    let new = EndedList::of(alloc, lines, gained)?;
+    known_in_all(
+        alloc,
+        lines,
+        part,
+        &known,
+        &gone.as_slices(),
+        &new.as_slices(),
+    )
 }

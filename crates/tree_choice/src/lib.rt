@@ -20,11 +20,13 @@ mod strips;
 mod walk;
 
 pub use block_boxes::blocks_of;
-pub use box_place::box_side;
+pub use candidate::Candidate;
 pub use choice::Choice;
 pub use choosing::{choose_above, choose_in_boxes, choose_ordered};
+pub use ends::{EndedList, EndedPieces};
 pub use exchange::floors_of_part;
 pub use floors::Floor;
 pub use map_choice::{choose, separates};
+pub use margins::{Margins, Normal};
 pub use straight::StraightLines;
 pub use strips::by_place;

@@ -10,7 +10,7 @@ use lump_records::{Ray, Vertex};
 /// The vector at right angles to a ray, towards its right side. Its inner product with a place is the side value of the
 /// place, before that of the ray's origin is taken off.
 #[derive(Clone, Copy)]
-pub(crate) struct Normal {
+pub struct Normal {
     pub x: i16,
     pub y: i16,
 }
@@ -18,7 +18,7 @@ pub(crate) struct Normal {
 /// A ray with two limits. A place whose value is above the first lies so far on the right that all points that round to
 /// it do too; below the second, likewise on the left. The value of the ray's origin isn't taken off the limits.
 #[derive(Clone, Copy)]
-pub(crate) struct Margins {
+pub struct Margins {
     pub ray: Ray,
     pub normal: Normal,
     pub above: i32,

@@ -5,7 +5,6 @@ ghost use Rattle.tree_pieces.specs.Plane.{IsEdge};
 ghost use Rattle.tree_pieces.specs.Pieces.{IsPiece};
 
 use crate::corner_columns::BoxColumns;
-use crate::ends::EndColumns;
 use indexmap::IndexSet;
 use lump_records::Bounds;
 use std::alloc::{AllocError, Global};
@@ -13,13 +12,12 @@ use tree_pieces::{Edge, Facing, Lines, Piece, lies_along, ray_of};
 
 /// Hints that save counts: a number for the straight line of each line, and for each number the place of the last piece
 /// met on that straight line. A hint is tested before it is used, so old or wrong hints only cost time. There is also
-/// room for the notes of a choice over as many pieces as the lines have sides: rounded ends, the corners of the boxes
-/// of blocks, boxes of groups, and the numbers of open blocks.
+/// room for the notes of a choice over as many pieces as the lines have sides: the corners of the boxes of blocks,
+/// boxes of groups, and the numbers of open blocks.
 #[derive(Drop)]
 pub struct StraightLines {
     numbers: Vec<u16>,
     met: Vec<u32>,
-    pub(crate) ends: EndColumns,
     pub(crate) sides: BoxColumns,
     pub(crate) groups: Vec<Bounds>,
     pub(crate) noted: Vec<u32>,
@@ -82,14 +80,12 @@ impl StraightLines {
             }
             numbers.push(u16::try_from(number).unwrap_or(u16::MAX))?;
         }
-        let ends = EndColumns::with_room(alloc, edges.len().saturating_mul(2))?;
         let sides = BoxColumns::with_room(alloc, edges.len() / 8 + 1)?;
         let groups = Vec::with_capacity(alloc, edges.len() / 128 + 1)?;
         let noted = Vec::from_elem(alloc, 0, edges.len() / 8 + 1)?;
         Ok(StraightLines {
             numbers,
             met,
-            ends,
             sides,
             groups,
             noted,
@@ -112,7 +108,6 @@ impl StraightLines {
         requires piece { IsPiece lines.now piece.now }
         requires stands { slice_get pieces.now at ≡ Some piece.now }
         ensures earlier { result ≡ true → HasEarlier lines.now pieces.now used.now at piece.now }
-        ensures ends { self.new.ends ≡ self.old.ends }
         ensures sides { self.new.sides ≡ self.old.sides }
         ensures groups { self.new.groups ≡ self.old.groups }
         ensures noted { self.new.noted ≡ self.old.noted }

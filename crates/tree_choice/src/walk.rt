@@ -13,7 +13,7 @@ use crate::block_boxes::BLOCK;
 use crate::candidate::{Candidate, NotedPieces};
 use crate::counts::Counts;
 use crate::ends::EndedPieces;
-use crate::margins::{Normal, PlaceSides, margins_of, sides_of_place};
+use crate::margins::{Normal, PlaceSides, sides_of_place};
 use crate::sorting::{Sorted, sort_all};
 use lump_records::{Vertex, product};
 use tree_pieces::{Ends, Lines, Piece, Place, divide_on, dot_of, place_on, ray_of, value_at};
@@ -293,16 +293,12 @@ pub(crate) fn count_by_boxes(
     ensures counts { AreCountsBelow lines.now partition.now list.now.pieces.now limit result }
     ensures room { length noted.new ≡ length noted.old }
 {
-    let by = Candidate {
-        lines,
-        piece: partition,
-        margins: margins_of(lines.ray_of(partition)),
-    };
+    let by = Candidate::of(lines, partition);
     let pieces = list.pieces;
     let ended = EndedPieces {
         pieces,
-        firsts: &list.ends.firsts[..pieces.len()],
-        lasts: &list.ends.lasts[..pieces.len()],
+        firsts: list.firsts,
+        lasts: list.lasts,
     };
     if pieces.len() <= BLOCK {
         return count_list(&by, &ended, limit);

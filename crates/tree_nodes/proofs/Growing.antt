@@ -17,11 +17,11 @@ use Rattle.tree_pieces.proofs.Choice.{one_tree, one_best}
 use Rattle.tree_pieces.proofs.Trees.{right_reached, left_reached}
 use Rattle.tree_nodes.specs.InRange.{greatest_number}
 use Rattle.tree_nodes.specs.TreeLists.{leaf_count, branch_count, child_of, IsEndOf, HasNodes}
-use Rattle.tree_nodes.specs.Boxed.{IsPlacedList}
-use Rattle.tree_nodes.specs.Growth.{Lists, IsListStep, HasBoxes, IsGrown, IsRefused, IsDivision, IsLeafPut, IsLeafRefused, IsNodePut}
+use Rattle.tree_nodes.specs.Placed.{IsPlacedList}
+use Rattle.tree_nodes.specs.Growth.{Lists, IsListStep, HasPlacedLists, IsGrown, IsRefused, IsDivision, IsLeafPut, IsLeafRefused, IsNodePut}
 use Rattle.tree_nodes.specs.declared.error.TreeError.{TreeError}
 use Rattle.tree_nodes.specs.declared.error.TreeError.TheVariants.{OutOfMemory, NothingToBuild, TooManyVertices, TooManySegs, TooManySubsectors, TooDeep}
-use Rattle.tree_nodes.specs.declared.boxed.PlacedPieces.{PlacedPieces}
+use Rattle.tree_nodes.specs.declared.placed.PlacedPieces.{PlacedPieces}
 use Rattle.tree_nodes.specs.declared.growth.Child.{Child}
 use Rattle.tree_nodes.specs.declared.step.Step.{Step}
 use Rattle.tree_nodes.specs.declared.step.Step.TheVariants.{Leaf as StepLeaf, Parts as StepParts}
@@ -242,8 +242,8 @@ pub division_of : (lines : List Edge) (ps : List Piece) (used : List Bool) (s : 
     → IsDivision lines ps used p right.pieces.items left.pieces.items
 division_of lines ps used s p right left f h = subst (IsListStep lines ps used) f h
 
-pub boxes_are : (lines : List Edge) (s : Step) (p : Piece) (right left : PlacedPieces) → s ≡ StepParts p right left → HasBoxes lines s → IsPlacedList lines right × IsPlacedList lines left
-boxes_are lines s p right left f h = subst (HasBoxes lines) f h
+pub lists_are : (lines : List Edge) (s : Step) (p : Piece) (right left : PlacedPieces) → s ≡ StepParts p right left → HasPlacedLists lines s → IsPlacedList lines right × IsPlacedList lines left
+lists_are lines s p right left f h = subst (HasPlacedLists lines) f h
 
 pub leaf_of : (lines : List Edge) (ps : List Piece) (used : List Bool) (s : Step) (leaf : Vec Piece Global) → s ≡ StepLeaf leaf → IsListStep lines ps used s → (leaf.items ≡ ps) × HasNoChoice lines ps used
 leaf_of lines ps used s leaf f h = subst (IsListStep lines ps used) f h

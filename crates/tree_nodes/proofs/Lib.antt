@@ -2,7 +2,7 @@ pub mod Counting
 pub mod Places
 pub mod Filling
 pub mod CornerLemmas
-pub mod Boxing
+pub mod KeptEnds
 pub mod Growing
 pub mod Opening
 pub mod SegLaws

@@ -11,9 +11,9 @@ use Rattle.tree_pieces.specs.Tree.{IsReached, HasNoChoice}
 use Rattle.tree_nodes.specs.declared.error.TreeError.{TreeError}
 use Rattle.tree_nodes.specs.declared.error.TreeError.TheVariants.{TooDeep}
 use Rattle.tree_nodes.specs.declared.growth.Child.{Child}
-use Rattle.tree_nodes.specs.declared.boxed.PlacedPieces.{PlacedPieces}
+use Rattle.tree_nodes.specs.declared.placed.PlacedPieces.{PlacedPieces}
 use Rattle.tree_nodes.specs.declared.open_tree.OpenTree.{OpenTree}
-use Rattle.tree_nodes.specs.Boxed.{IsPlacedList}
+use Rattle.tree_nodes.specs.Placed.{IsPlacedList}
 use Rattle.tree_nodes.specs.Growth.{Lists, lists_of, IsGrown, IsRefused, IsDivision, IsLeafPut, IsLeafRefused}
 use Rattle.tree_nodes.specs.OpenTree.{IsDivisible, HasNext, IsChildOf, HasGrown, IsNextRefused, IsLeafEnded, IsNodeOpened, IsNodeOpen, HasNodeOpen, CanClose, HasNodeClosed}
 use Rattle.tree_nodes.proofs.Growing.{leaf_grown, leaf_refused, deep_here, partition_is, right_side_reached, left_side_reached, right_side_some, left_side_some, right_side_few, left_side_few, line_free, refused_right, refused_left, fewer_mid, nodes_few, node_grown, restored}
@@ -71,15 +71,15 @@ module _ (lines : List Edge) (room : ℕ) (old mid : OpenTree) (before : List Pl
     line_known = let w = slice_get_within old.used.items p.line false (line_free _ _ _ _ _ _ d) in let n = ap length taken.used in omega (arith, n, w)
 
     pub node_next_opened : (new : OpenTree) → IsPlacedList lines right × IsPlacedList lines left → 0 < room → IsNodeOpened p right left mid new → HasNodeOpen lines room old new
-    node_next_opened new boxed some o rest list f =
+    node_next_opened new listed some o rest list f =
         let s = last_same before rest first list (sym is ∙ f) in
         record {
           partition = p;
           right = right;
           left = left;
           division = subst (λ (l : PlacedPieces). IsDivision lines l.pieces.items old.used.items p right.pieces.items left.pieces.items) s.1 d;
-          right_boxed = boxed.0;
-          left_boxed = boxed.1;
+          right_listed = listed.0;
+          left_listed = listed.1;
           lists = o.lists ∙ ap (λ (x : List PlacedPieces). (x ++ left ∷ []) ++ right ∷ []) (taken.lists ∙ s.0);
           partitions = o.partitions ∙ ap (λ (x : List Piece). x ++ p ∷ []) taken.partitions;
           children = o.children ∙ taken.children;
@@ -98,7 +98,7 @@ module _ (lines : List Edge) (all : All IsEdge lines) (room : ℕ) (old one : Op
     lists = o.lists;
     divisible = record {
       reached = subst (λ (u : List Bool). IsReached lines u o.right.pieces.items) (sym o.used) (right_side_reached _ _ _ _ _ _ o.division all can.reached);
-      boxed = o.right_boxed;
+      listed = o.right_listed;
       some = right_side_some _ _ _ _ _ _ o.division all can.reached;
       few = let f = right_side_few _ _ _ _ _ _ o.division in omega (arith, o.right.pieces.ok.0, list.pieces.ok.0, can.few);
       fewer = let n = ap (λ (l : Lists). length l.nodes) o.grown in let c = ap (λ (l : Lists). length l.sizes) o.grown in omega (arith, n, c, can.fewer);
@@ -130,7 +130,7 @@ module _ (lines : List Edge) (all : All IsEdge lines) (room : ℕ) (old one : Op
       lists = right_of.lists;
       divisible = record {
         reached = subst (λ (u : List Bool). IsReached lines u o.left.pieces.items) (sym used_two) (left_side_reached _ _ _ _ _ _ o.division all can.reached);
-        boxed = o.left_boxed;
+        listed = o.left_listed;
         some = left_side_some _ _ _ _ _ _ o.division;
         few = let f = left_side_few _ _ _ _ _ _ o.division in omega (arith, o.left.pieces.ok.0, list.pieces.ok.0, can.few);
         fewer = fewer_mid _ _ _ _ _ _ o.division room (lists_of old.grown) (lists_of two.grown) right_of.child right_grown can.fewer;

@@ -5,8 +5,9 @@ use Rattle.std.specs.List.{cons_option}
 use Rattle.std.proofs.lemmas.List.Sorted.{IsPermutation-refl, IsPermutation-cons, IsPermutation-trans, IsPermutation-middle, IsPermutation-keeps}
 use Rattle.tree_pieces.specs.declared.edge.Edge.{Edge}
 use Rattle.tree_pieces.specs.declared.piece.Piece.{Piece}
-use Rattle.tree_nodes.specs.Boxed.{IsBoxed, IsPlaced}
-use Rattle.tree_nodes.specs.declared.boxed.BoxedPieces.{BoxedPieces}
+use Rattle.tree_choice.specs.Columns.{IsEnded}
+use Rattle.tree_nodes.specs.Placed.{IsPlaced}
+use Rattle.tree_choice.specs.declared.ends.EndedList.{EndedList}
 
 module _ {X Y : Type 0} (f : X → Option Y) where
   -- one more on both sides
@@ -46,14 +47,14 @@ module _ {X Y : Type 0} (f : X → Option Y) where
       (λ l i j p q h. one_step (filter_map f xs) l i j p q h) ys
 
 -- an order that a list has
-pub placed_is : (lines : List Edge) (ps : List Piece) (o : Option BoxedPieces) (b : BoxedPieces) → o ≡ Some b → IfSome o (IsPlaced lines ps) → IsPlaced lines ps b
-placed_is lines ps o b e h = subst (λ (x : Option BoxedPieces). IfSome x (IsPlaced lines ps)) e h
+pub placed_is : (lines : List Edge) (ps : List Piece) (o : Option EndedList) (b : EndedList) → o ≡ Some b → IfSome o (IsPlaced lines ps) → IsPlaced lines ps b
+placed_is lines ps o b e h = subst (λ (x : Option EndedList). IfSome x (IsPlaced lines ps)) e h
 
 -- the parts of an order are an order of the parts
-pub parts_placed : (lines : List Edge) (f : Piece → Option Piece) (ps : List Piece) (b part : BoxedPieces) → IsPlaced lines ps b
-    → part.pieces.items ≡ filter_map f b.pieces.items → IsBoxed lines part → IsPlaced lines (filter_map f ps) part
+pub parts_placed : (lines : List Edge) (f : Piece → Option Piece) (ps : List Piece) (b part : EndedList) → IsPlaced lines ps b
+    → part.pieces.items ≡ filter_map f b.pieces.items → IsEnded lines part → IsPlaced lines (filter_map f ps) part
 parts_placed lines f ps b part h e k =
     record {
       order = subst (IsPermutation (filter_map f ps)) (sym e) (parts_permuted f ps b.pieces.items h.order);
-      boxed = k;
+      ended = k;
     }

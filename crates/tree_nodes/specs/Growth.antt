@@ -17,7 +17,7 @@ use Rattle.tree_nodes.specs.InRange.{greatest_number}
 use Rattle.tree_nodes.specs.References.{subsector}
 use Rattle.tree_nodes.specs.TreeLists.{child_of, IsEndOf, HasNodes}
 use Rattle.tree_nodes.specs.Corners.{IsJoined}
-use Rattle.tree_nodes.specs.Boxed.{IsPlacedList}
+use Rattle.tree_nodes.specs.Placed.{IsPlacedList}
 
 -- ---- one step
 -- a division of a list: its best candidate, and the parts on its two sides
@@ -34,10 +34,11 @@ IsListStep lines ps used (StepLeaf leaf) = (leaf.items ≡ ps) × HasNoChoice li
 IsListStep lines ps used (StepParts partition right left) =
     IsDivision lines ps used partition right.pieces.items left.pieces.items
 
--- each part of it has its box
-abbrev pub HasBoxes : List Edge → Step → Type 0
-HasBoxes lines (StepLeaf leaf) = Unit {0}
-HasBoxes lines (StepParts partition right left) = IsPlacedList lines right × IsPlacedList lines left
+-- beside each of its lists stands what a list has: rounded ends, and perhaps an order and floors
+abbrev pub HasPlacedLists : List Edge → Step → Type 0
+HasPlacedLists lines (StepLeaf leaf) = Unit {0}
+HasPlacedLists lines (StepParts partition right left) =
+    IsPlacedList lines right × IsPlacedList lines left
 
 -- ---- the lists
 -- the pieces, the count of each leaf, and the nodes that were put down

@@ -6,7 +6,7 @@ pub mod TreeLists
 pub mod Numbers
 pub mod Sound
 pub mod Corners
-pub mod Boxed
+pub mod Placed
 pub mod Growth
 pub mod OpenTree
 pub mod Refusals

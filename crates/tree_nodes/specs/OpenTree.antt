@@ -6,16 +6,16 @@ use Rattle.tree_pieces.specs.Pieces.{IsPiece}
 use Rattle.tree_pieces.specs.Tree.{IsReached}
 use Rattle.tree_nodes.specs.declared.error.TreeError.{TreeError}
 use Rattle.tree_nodes.specs.declared.growth.Child.{Child}
-use Rattle.tree_nodes.specs.declared.boxed.PlacedPieces.{PlacedPieces}
+use Rattle.tree_nodes.specs.declared.placed.PlacedPieces.{PlacedPieces}
 use Rattle.tree_nodes.specs.declared.open_tree.OpenTree.{OpenTree}
-use Rattle.tree_nodes.specs.Boxed.{IsPlacedList}
+use Rattle.tree_nodes.specs.Placed.{IsPlacedList}
 use Rattle.tree_nodes.specs.Growth.{Lists, lists_of, IsGrown, IsRefused, IsDivision, IsLeafPut, IsNodePut}
 
 -- ---- the next list
 -- this list may be divided next
 pub record IsDivisible (lines : List Edge) (tree : OpenTree) (list : PlacedPieces) : Type 0 where
   pub reached : IsReached lines tree.used.items list.pieces.items
-  pub boxed : IsPlacedList lines list
+  pub listed : IsPlacedList lines list
   pub some : 0 < length list.pieces.items
   pub few : vec_len list.pieces < 2 ^ 31
   pub fewer : length tree.grown.nodes.items ≤ length tree.grown.counts.items
@@ -77,8 +77,8 @@ pub record IsNodeOpen (lines : List Edge) (room : ℕ) (old new : OpenTree) (res
   pub left : PlacedPieces
   pub division : IsDivision lines list.pieces.items old.used.items partition right.pieces.items
       left.pieces.items
-  pub right_boxed : IsPlacedList lines right
-  pub left_boxed : IsPlacedList lines left
+  pub right_listed : IsPlacedList lines right
+  pub left_listed : IsPlacedList lines left
   pub lists : new.lists.items ≡ (rest ++ left ∷ []) ++ right ∷ []
   pub partitions : new.partitions.items ≡ old.partitions.items ++ partition ∷ []
   pub children : new.children.items ≡ old.children.items

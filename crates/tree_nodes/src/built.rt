@@ -6,10 +6,10 @@ ghost use Rattle.tree_nodes.specs.Sound.{AllDiffer, IsWithinLimits};
 ghost use Rattle.tree_nodes.specs.Built.{IsBuilt, IsBuiltOver, IsRefusalOver, IsTreeRefusal};
 ghost use Rattle.tree_nodes.specs.Refusals.{AreTreeLists, IsTreeRefused};
 
-use crate::boxed::PlacedPieces;
 use crate::error::TreeError;
 use crate::growth::Grown;
 use crate::open_tree::grow;
+use crate::placed::PlacedPieces;
 use crate::segs::segs_of;
 use crate::subsectors::subs_of;
 use lump_records::{ITEM_LIMIT, Node, Seg, Sub, Vertex};

@@ -1,7 +1,6 @@
 //! The node builder: the tree over all sides of lines, or of a map's, with its vertices, segs, subsectors and nodes.
 #![tactic(auto)]
 
-mod boxed;
 mod built;
 mod corners;
 mod error;
@@ -9,6 +8,7 @@ mod growth;
 mod laws;
 mod open_tree;
 mod parting;
+mod placed;
 mod segs;
 mod shape;
 mod step;

@@ -3,13 +3,13 @@
 ghost use Rattle.std.specs.Prelude.{◌≡◌, ◌<◌, ◌≤◌, ◌^◌, [], ◌∷◌, true, false, length, vec_len, All, IfOk, IfErr, OnOk};
 ghost use Rattle.tree_pieces.specs.Pieces.{IsPiece};
 ghost use Rattle.tree_pieces.specs.Tree.{IsReached};
-ghost use Rattle.tree_nodes.specs.Boxed.{IsPlacedList};
+ghost use Rattle.tree_nodes.specs.Placed.{IsPlacedList};
 ghost use Rattle.tree_nodes.specs.Growth.{lists_of, IsRefused, IsLeafRefused};
 ghost use Rattle.tree_nodes.specs.OpenTree.{HasNext, HasGrown, IsNextRefused, IsLeafEnded, IsNodeOpened, HasNodeOpen, CanClose, HasNodeClosed, HasGrownTree};
 
-use crate::boxed::PlacedPieces;
 use crate::error::TreeError;
 use crate::growth::{Child, Grown, put_leaf, put_node};
+use crate::placed::PlacedPieces;
 use crate::step::{Step, step_in};
 use std::alloc::{AllocError, Global};
 use tree_choice::StraightLines;
@@ -197,7 +197,7 @@ pub(crate) fn grow(
     grown: Grown,
 ) -> Result<Grown, TreeError>
     requires reached { IsReached lines.now used.items list.pieces.items }
-    requires boxed { IsPlacedList lines.now list }
+    requires placed { IsPlacedList lines.now list }
     requires some { 0 < length list.pieces.items }
     requires few { vec_len list.pieces < 2 ^ 31 }
     requires fewer { length grown.nodes.items ≤ length grown.counts.items }

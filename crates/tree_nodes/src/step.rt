@@ -2,20 +2,20 @@
 //! differ in time alone.
 ghost use Rattle.std.specs.Prelude.{◌≡◌, ◌<◌, ◌≤◌, ◌^◌, length, vec_len, All, IfOk, IfSome};
 ghost use Rattle.tree_pieces.specs.Pieces.{IsPiece};
-ghost use Rattle.tree_pieces.specs.Boxes.{boxes_of};
 ghost use Rattle.tree_pieces.specs.Division.{right_parts, left_parts};
+ghost use Rattle.tree_choice.specs.Candidates.{AreEnded};
 ghost use Rattle.tree_choice.specs.Choices.{IsChosen};
 ghost use Rattle.tree_choice.specs.Floors.{AreKnown};
-ghost use Rattle.tree_nodes.specs.Boxed.{IsPlaced, IsPlacedList};
-ghost use Rattle.tree_nodes.specs.Growth.{IsListStep, HasBoxes};
+ghost use Rattle.tree_nodes.specs.Placed.{IsPlaced, IsPlacedList};
+ghost use Rattle.tree_nodes.specs.Growth.{IsListStep, HasPlacedLists};
 
-use crate::boxed::{BoxedPieces, PlacedPieces};
 use crate::parting::{Sides, part_list};
+use crate::placed::PlacedPieces;
 use lump_records::Bounds;
 use std::alloc::{AllocError, Global};
 use tree_choice::{
-    Choice, Floor, StraightLines, blocks_of, by_place, choose_above, choose_in_boxes,
-    floors_of_part,
+    Choice, EndedList, EndedPieces, Floor, StraightLines, blocks_of, by_place, choose_above,
+    choose_in_boxes, floors_of_part,
 };
 use tree_pieces::{Lines, Piece};
 
@@ -33,7 +33,7 @@ const EVERYWHERE: Bounds = Bounds {
 // Longer lists than this have an order by places, and remember what their pieces cost.
 const LONG: usize = 256;
 
-/// What a list of pieces becomes: a leaf, or a partition and the two lists of the parts with their boxes.
+/// What a list of pieces becomes: a leaf, or a partition and the two lists of the parts.
 #[derive(Drop)]
 pub(crate) enum Step {
     Leaf(Vec<Piece>),
@@ -47,8 +47,8 @@ pub(crate) enum Step {
 /// The orders by places of the parts on the two sides of a partition, if they are long enough to have one.
 #[derive(Drop)]
 struct Orders {
-    right: Option<BoxedPieces>,
-    left: Option<BoxedPieces>,
+    right: Option<EndedList>,
+    left: Option<EndedList>,
 }
 
 /// The parts of a list on the two sides of a partition, with their orders by places if they have one.
@@ -63,8 +63,8 @@ fn order_of(
     alloc: Global,
     lines: &Lines,
     list: &[Piece],
-    placed: Option<BoxedPieces>,
-) -> Result<Option<BoxedPieces>, AllocError>
+    placed: Option<EndedList>,
+) -> Result<Option<EndedList>, AllocError>
     requires pieces { All (IsPiece lines.now) list.now }
     requires placed { IfSome placed (IsPlaced lines.now list.now) }
     ensures { IfOk result (λ order. IfSome order (IsPlaced lines.now list.now)) }
@@ -76,7 +76,7 @@ fn order_of(
         Some(order) => Ok(Some(order)),
         None => {
             let ordered = by_place(alloc, lines, list)?;
-            let order = BoxedPieces::of(alloc, lines, ordered)?;
+            let order = EndedList::of(alloc, lines, ordered)?;
             Ok(Some(order))
         }
     }
@@ -90,7 +90,7 @@ fn parted_order(
     partition: &Piece,
     choice: Choice,
     list: &[Piece],
-    placed: Option<BoxedPieces>,
+    placed: Option<EndedList>,
 ) -> Result<Orders, AllocError>
     requires partition { IsPiece lines.now partition.now }
     requires pieces { All (IsPiece lines.now) list.now }
@@ -110,14 +110,8 @@ fn parted_order(
     match placed {
         None => Ok(none),
         Some(order) => {
-            let Sides { right, left } = part_list(
-                alloc,
-                lines,
-                partition,
-                choice,
-                &order.pieces,
-                &order.boxes,
-            )?;
+            let slices = order.as_slices();
+            let Sides { right, left } = part_list(alloc, lines, partition, choice, &slices)?;
             Ok(Orders {
                 right: Some(right),
                 left: Some(left),
@@ -145,46 +139,46 @@ fn floors_in(
     floors_of_part(alloc, lines, list, floors, part)
 }
 
-// The parts of a list on the two sides of a partition, with their boxes and orders. The order is divided first: once
+// The parts of a list on the two sides of a partition, with their orders. The order is divided first: once
 // its parts stand, its own memory is free for those of the list.
 fn part_placed(
     alloc: Global,
     lines: &Lines,
     partition: &Piece,
     choice: Choice,
-    list: &[Piece],
-    boxes: &[Bounds],
-    placed: Option<BoxedPieces>,
+    list: &EndedPieces,
+    placed: Option<EndedList>,
     floors: &[Floor],
 ) -> Result<PlacedSides, AllocError>
     requires partition { IsPiece lines.now partition.now }
-    requires floors { AreKnown lines.now list.now floors.now }
-    requires boxes { boxes.now ≡ boxes_of lines.now list.now }
-    requires placed { IfSome placed (IsPlaced lines.now list.now) }
-    ensures right { IfOk result
-        (λ sides. sides.right.pieces.items ≡ right_parts lines.now partition.now list.now) }
-    ensures left { IfOk result
-        (λ sides. sides.left.pieces.items ≡ left_parts lines.now partition.now list.now) }
-    ensures right_boxed { IfOk result (λ sides. IsPlacedList lines.now sides.right) }
-    ensures left_boxed { IfOk result (λ sides. IsPlacedList lines.now sides.left) }
+    requires list { AreEnded lines.now list.now }
+    requires floors { AreKnown lines.now list.now.pieces.now floors.now }
+    requires placed { IfSome placed (IsPlaced lines.now list.now.pieces.now) }
+    ensures right { IfOk result (λ sides. sides.right.pieces.items
+        ≡ right_parts lines.now partition.now list.now.pieces.now) }
+    ensures left { IfOk result (λ sides. sides.left.pieces.items
+        ≡ left_parts lines.now partition.now list.now.pieces.now) }
+    ensures right_listed { IfOk result (λ sides. IsPlacedList lines.now sides.right) }
+    ensures left_listed { IfOk result (λ sides. IsPlacedList lines.now sides.left) }
 {
     lines.are_drawn();
-    let orders = parted_order(alloc, lines, partition, choice, list, placed)?;
-    let Sides { right, left } = part_list(alloc, lines, partition, choice, list, boxes)?;
-    let right_floors = floors_in(alloc, lines, list, floors, &right.pieces)?;
-    let left_floors = floors_in(alloc, lines, list, floors, &left.pieces)?;
+    let pieces = list.pieces;
+    let orders = parted_order(alloc, lines, partition, choice, pieces, placed)?;
+    let Sides { right, left } = part_list(alloc, lines, partition, choice, list)?;
+    let right_floors = floors_in(alloc, lines, pieces, floors, &right.pieces)?;
+    let left_floors = floors_in(alloc, lines, pieces, floors, &left.pieces)?;
     Ok(PlacedSides {
-        right: right.with_order(orders.right, right_floors),
-        left: left.with_order(orders.left, left_floors),
+        right: PlacedPieces::with_order(right, orders.right, right_floors),
+        left: PlacedPieces::with_order(left, orders.left, left_floors),
     })
 }
 
-// The best candidate of a list that has an order by places, by the boxes in that order.
+// The best candidate of a list that has an order by places, in that order.
 fn choice_by_place(
     alloc: Global,
     lines: &Lines,
     list: &[Piece],
-    order: &BoxedPieces,
+    order: &EndedList,
     used: &[bool],
     straight: &mut StraightLines,
     floors: &mut [Floor],
@@ -196,65 +190,55 @@ fn choice_by_place(
     ensures choice { IfOk result (IsChosen lines.now list.now used.now) }
     ensures floors { AreKnown lines.now list.now floors.new }
 {
-    let blocks = blocks_of(alloc, &order.boxes)?;
-    Ok(choose_above(
-        lines,
-        list,
-        &order.pieces,
-        &order.boxes,
-        &blocks,
-        used,
-        straight,
-        floors,
-    ))
+    let slices = order.as_slices();
+    let blocks = blocks_of(alloc, lines, &slices)?;
+    Ok(choose_above(lines, list, &slices, &blocks, used, straight, floors))
 }
 
 // The best candidate of a list of one block. The choice tests such pieces one by one and never reads the block's box.
 fn choice_of_few(
     lines: &Lines,
-    list: &[Piece],
-    boxes: &[Bounds],
+    list: &EndedPieces,
     used: &[bool],
     straight: &mut StraightLines,
 ) -> Option<Choice>
-    requires pieces { All (IsPiece lines.now) list.now }
-    requires boxes { boxes.now ≡ boxes_of lines.now list.now }
+    requires list { AreEnded lines.now list.now }
     requires known { length used.now ≡ length lines.now }
-    requires some { 0 < length list.now }
-    requires few { length list.now ≤ 16 }
-    ensures { IsChosen lines.now list.now used.now result }
+    requires some { 0 < length list.now.pieces.now }
+    requires few { length list.now.pieces.now ≤ 16 }
+    ensures { IsChosen lines.now list.now.pieces.now used.now result }
 {
     lines.are_drawn();
-    choose_in_boxes(lines, list, boxes, &[EVERYWHERE], used, straight)
+    choose_in_boxes(lines, list, &[EVERYWHERE], used, straight)
 }
 
-// The best candidate of a list: by the boxes of its order by places if it has one, else by its own boxes.
+// The best candidate of a list: in its order by places if it has one, else in its own.
 fn choice_of(
     alloc: Global,
     lines: &Lines,
-    list: &[Piece],
-    boxes: &[Bounds],
-    placed: &Option<BoxedPieces>,
+    list: &EndedPieces,
+    placed: &Option<EndedList>,
     used: &[bool],
     straight: &mut StraightLines,
     floors: &mut [Floor],
 ) -> Result<Option<Choice>, AllocError>
-    requires boxes { boxes.now ≡ boxes_of lines.now list.now }
-    requires placed { IfSome placed.now (IsPlaced lines.now list.now) }
+    requires list { AreEnded lines.now list.now }
+    requires placed { IfSome placed.now (IsPlaced lines.now list.now.pieces.now) }
     requires known { length used.now ≡ length lines.now }
-    requires few { length list.now < 2 ^ 31 }
-    requires floors { AreKnown lines.now list.now floors.old }
-    ensures choice { IfOk result (IsChosen lines.now list.now used.now) }
-    ensures floors { AreKnown lines.now list.now floors.new }
+    requires few { length list.now.pieces.now < 2 ^ 31 }
+    requires floors { AreKnown lines.now list.now.pieces.now floors.old }
+    ensures choice { IfOk result (IsChosen lines.now list.now.pieces.now used.now) }
+    ensures floors { AreKnown lines.now list.now.pieces.now floors.new }
 {
+    let pieces = list.pieces;
     match placed {
-        Some(order) => choice_by_place(alloc, lines, list, order, used, straight, floors),
+        Some(order) => choice_by_place(alloc, lines, pieces, order, used, straight, floors),
         None => {
-            if 0 < list.len() && list.len() <= FEW {
-                return Ok(choice_of_few(lines, list, boxes, used, straight));
+            if 0 < pieces.len() && pieces.len() <= FEW {
+                return Ok(choice_of_few(lines, list, used, straight));
             }
-            let blocks = blocks_of(alloc, boxes)?;
-            Ok(choose_above(lines, list, list, boxes, &blocks, used, straight, floors))
+            let blocks = blocks_of(alloc, lines, list)?;
+            Ok(choose_above(lines, pieces, list, &blocks, used, straight, floors))
         }
     }
 }
@@ -267,35 +251,32 @@ pub(crate) fn step_in(
     used: &[bool],
     straight: &mut StraightLines,
 ) -> Result<Step, AllocError>
-    requires boxed { IsPlacedList lines.now list }
+    requires placed { IsPlacedList lines.now list }
     requires known { length used.now ≡ length lines.now }
     requires few { vec_len list.pieces < 2 ^ 31 }
     ensures step { IfOk result (λ step. IsListStep lines.now list.pieces.items used.now step) }
-    ensures boxed { IfOk result (HasBoxes lines.now) }
+    ensures lists { IfOk result (HasPlacedLists lines.now) }
 {
     let PlacedPieces {
         pieces,
-        boxes,
+        firsts,
+        lasts,
         placed,
         mut floors,
     } = list;
+    let slices = EndedPieces {
+        pieces: &pieces,
+        firsts: &firsts,
+        lasts: &lasts,
+    };
     let order = order_of(alloc, lines, &pieces, placed)?;
-    let choice = match choice_of(
-        alloc,
-        lines,
-        &pieces,
-        &boxes,
-        &order,
-        used,
-        straight,
-        &mut floors,
-    )? {
+    let choice = match choice_of(alloc, lines, &slices, &order, used, straight, &mut floors)? {
         None => return Ok(Step::Leaf(pieces)),
         Some(choice) => choice,
     };
     let partition = pieces[choice.at as usize];
     let PlacedSides { right, left } = part_placed(
-        alloc, lines, &partition, choice, &pieces, &boxes, order, &floors,
+        alloc, lines, &partition, choice, &slices, order, &floors,
     )?;
     Ok(Step::Parts {
         partition,

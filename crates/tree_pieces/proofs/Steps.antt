@@ -1,6 +1,6 @@
 -- Each piece covers a step, and rounded points and pieces lie in their boxes.
 use Rattle.std.proofs.Common.{◌≡◌, refl, sym, ap, ◌∙◌, ℕ, ◌≤◌, ◌<◌, List, true, false, arith}
-use Rattle.std.specs.Prelude.{ℤ, pos, ◌<ℤ◌, ◌+ℤ◌, ◌-ℤ◌, nat_eq, nat_le, nat_lt, ◌&&◌}
+use Rattle.std.specs.Prelude.{nat_eq, nat_le, nat_lt, ◌&&◌}
 use Rattle.std.specs.Int.{int_min, int_max}
 use Rattle.std.proofs.lemmas.Bool.{eq-eqb, le-leb, lt-ltb, and_from}
 use Rattle.std.proofs.lemmas.Int.{ints, int_min_is, int_max_is}
@@ -13,7 +13,7 @@ use Rattle.tree_pieces.specs.declared.frac.Frac.{Frac}
 use Rattle.tree_pieces.specs.declared.piece.Piece.{Piece}
 use Rattle.tree_pieces.specs.Fractions.{IsFraction, AtMost, point_at, steps_between, step_within}
 use Rattle.tree_pieces.specs.Pieces.{edge_of, first_end, last_end, same_side, same_place, covers, IsPiece}
-use Rattle.tree_pieces.specs.Boxes.{HoldsPiece, box_of, IsInBox}
+use Rattle.tree_pieces.specs.Boxes.{IsInBox}
 use Rattle.tree_pieces.proofs.Rounding.{steps_rise, steps_same, rounded_in}
 
 -- ---- steps
@@ -66,19 +66,3 @@ point_in_box e t h =
     (int_max e.v1.y e.v2.y) e.v1.y e.v2.y t h.positive h.at_least_zero h.at_most_one (omega (arith, ints))
     (omega (arith, ints)) (omega (arith, ints)) (omega (arith, ints)) in
     record { left = x.0; right = x.1; bottom = y.0; top = y.1 }
-
-least_below : (a b : ℤ) → ((int_min a b -ℤ pos 1) <ℤ a) × ((int_min a b -ℤ pos 1) <ℤ b)
-least_below a b = let h = int_min_is a b in (omega (arith, ints), omega (arith, ints))
-
-greatest_above : (a b : ℤ) → (a <ℤ (int_max a b +ℤ pos 1)) × (b <ℤ (int_max a b +ℤ pos 1))
-greatest_above a b = let h = int_max_is a b in (omega (arith, ints), omega (arith, ints))
-
--- the box of a piece holds it
-pub box_holds : (lines : List Edge) (p : Piece) → HoldsPiece lines (box_of lines p) p
-box_holds lines p =
-    let u = first_end lines p in
-    let v = last_end lines p in
-    record {
-      first = record { left = (least_below u.x v.x).0; right = (greatest_above u.x v.x).0; bottom = (least_below u.y v.y).0; top = (greatest_above u.y v.y).0 };
-      last = record { left = (least_below u.x v.x).1; right = (greatest_above u.x v.x).1; bottom = (least_below u.y v.y).1; top = (greatest_above u.y v.y).1 };
-    }

@@ -1,13 +1,12 @@
 -- Boxes round pieces, and the side of a ray on which a whole box lies.
-use Rattle.std.specs.Prelude.{if◌then◌else◌, ℤ, pos, ◌+ℤ◌, ◌-ℤ◌, ◌*ℤ◌, ◌≤ℤ◌, ◌<ℤ◌, int_le, List, map}
+use Rattle.std.specs.Prelude.{if◌then◌else◌, ℤ, pos, ◌-ℤ◌, ◌*ℤ◌, ◌≤ℤ◌, ◌<ℤ◌, int_le, List}
 use Rattle.std.specs.Int.{int_min, int_max}
 use Rattle.lump_records.specs.declared.records.Vertex.{Vertex}
 use Rattle.lump_records.specs.declared.records.Bounds.{Bounds}
 use Rattle.lump_records.specs.declared.plane.Ray.{Ray}
 use Rattle.tree_pieces.specs.declared.edge.Edge.{Edge}
 use Rattle.tree_pieces.specs.declared.piece.Piece.{Piece}
-use Rattle.tree_pieces.specs.Fractions.{point_at}
-use Rattle.tree_pieces.specs.Pieces.{edge_of, first_end, last_end}
+use Rattle.tree_pieces.specs.Pieces.{first_end, last_end}
 
 -- the least and the greatest of a number times what lies from low to high
 abbrev pub least_times : ℤ → ℤ → ℤ → ℤ
@@ -41,29 +40,6 @@ pub record IsWellIn (b : Bounds) (v : Vertex) : Type 0 where
 pub record HoldsPiece (lines : List Edge) (b : Bounds) (p : Piece) : Type 0 where
   pub first : IsWellIn b (first_end lines p)
   pub last : IsWellIn b (last_end lines p)
-
--- ---- the box of each piece
--- the least box of two places, one step wider on each side
-abbrev pub widened : Vertex → Vertex → Bounds
-widened u v =
-    record {
-      top = int_max u.y v.y +ℤ pos 1;
-      bottom = int_min u.y v.y -ℤ pos 1;
-      left = int_min u.x v.x -ℤ pos 1;
-      right = int_max u.x v.x +ℤ pos 1;
-    }
-
--- the box of a piece of a line: that of its rounded ends
-abbrev pub box_on : Edge → Piece → Bounds
-box_on e p = widened (point_at e p.from) (point_at e p.to)
-
--- the box of a piece
-abbrev pub box_of : List Edge → Piece → Bounds
-box_of lines p = box_on (edge_of lines p) p
-
--- the boxes of the pieces of a list, in its order
-abbrev pub boxes_of : List Edge → List Piece → List Bounds
-boxes_of lines ps = map (box_of lines) ps
 
 -- ---- the box of a line
 -- the place lies in the box of the line's ends

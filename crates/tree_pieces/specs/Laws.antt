@@ -14,7 +14,7 @@ use Rattle.tree_pieces.specs.Division.{parts_of, IsDivided}
 use Rattle.tree_pieces.specs.Tree.{Tree, Divides, IsTreeOf, leaves, pieces, IsParted}
 use Rattle.tree_pieces.specs.Convex.{IsConvex}
 use Rattle.tree_pieces.specs.First.{first_pieces}
-use Rattle.tree_pieces.specs.Boxes.{IsInBox, HoldsPiece, box_of, least_value, greatest_value}
+use Rattle.tree_pieces.specs.Boxes.{IsInBox, HoldsPiece, least_value, greatest_value}
 
 -- ---- rounding
 -- a rounded coordinate is within half a step of the exact one, and above it where it is half a step
@@ -70,10 +70,6 @@ FirstListCoversEachSide =
     (IsTrue (edge_at lines line).has_left → cover lines line Against k (first_pieces lines) ≡ 1)
 
 -- ---- boxes
--- both rounded ends of a piece lie in its box, a step or more from its sides
-abbrev pub BoxesHoldTheirPieces : Type 0
-BoxesHoldTheirPieces = (lines : List Edge) (p : Piece) → HoldsPiece lines (box_of lines p) p
-
 -- a piece in a box on the right of a partition goes right whole
 abbrev pub BoxesOnTheRight : Type 0
 BoxesOnTheRight =

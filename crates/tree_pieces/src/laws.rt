@@ -1,5 +1,5 @@
 //! Laws of rounding, division and trees, each the contract of a call without a body.
-ghost use Rattle.tree_pieces.specs.Laws.{RoundsToNearest, RoundsNearItsSide, StepsRise, EqualStepsAreOnePoint, PartsKeepTheirPiece, EachListHasATree, NoListHasTwoTrees, TreesKeepCover, LeavesAreConvex, BranchesPart, PointsStayInTheBox, EachPieceCoversAStep, FirstListHasPieces, FirstListCoversEachSide, BoxesHoldTheirPieces, BoxesOnTheRight, BoxesOnTheLeft, TreesHavePieces};
+ghost use Rattle.tree_pieces.specs.Laws.{RoundsToNearest, RoundsNearItsSide, StepsRise, EqualStepsAreOnePoint, PartsKeepTheirPiece, EachListHasATree, NoListHasTwoTrees, TreesKeepCover, LeavesAreConvex, BranchesPart, PointsStayInTheBox, EachPieceCoversAStep, FirstListHasPieces, FirstListCoversEachSide, BoxesOnTheRight, BoxesOnTheLeft, TreesHavePieces};
 
 /// Rounding moves a point by at most half a step in each direction, so it stays on its side of a ray
 /// to within that.
@@ -27,10 +27,9 @@ pub fn first_list_covers_each_side()
     ensures cover { FirstListCoversEachSide }
 {}
 
-/// A piece lies within its box, so a partition that has the whole box on one side leaves the piece
-/// whole on that side.
-pub fn boxes_hold_their_pieces()
-    ensures holds { BoxesHoldTheirPieces }
+/// A piece whose rounded ends lie a step or more within a box goes whole to the side of a partition on which the whole
+/// box lies.
+pub fn pieces_go_with_their_box()
     ensures right { BoxesOnTheRight }
     ensures left { BoxesOnTheLeft }
 {}

@@ -18,7 +18,6 @@ mod lines;
 mod map_lines;
 mod numbered;
 mod piece;
-mod piece_box;
 mod signs;
 mod values;
 
@@ -30,9 +29,8 @@ pub use error::SegsError;
 pub use first::{pieces_in, pieces_of};
 pub use frac::Frac;
 pub use laws::{
-    boxes_hold_their_pieces, first_list_covers_each_side, lists_have_one_tree,
-    parts_keep_their_piece, pieces_cover_a_step, points_rise, points_round_to_nearest,
-    trees_keep_their_list,
+    first_list_covers_each_side, lists_have_one_tree, parts_keep_their_piece, pieces_cover_a_step,
+    pieces_go_with_their_box, points_rise, points_round_to_nearest, trees_keep_their_list,
 };
 pub use line_angles::angles_in;
 pub use line_fault::{LineFault, LinesError};
@@ -42,5 +40,4 @@ pub use lines::Lines;
 pub use map_lines::{edges_of, lines_are_drawn};
 pub use numbered::Points;
 pub use piece::{Ends, Parts, Piece, Place};
-pub use piece_box::{box_on, boxes_in};
 pub use values::{dot_of, ray_of, value_at};

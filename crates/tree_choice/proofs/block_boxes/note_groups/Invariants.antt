@@ -6,5 +6,5 @@ use Rattle.tree_choice.proofs.block_boxes.note_groups.Given as goal
 abbrev pub invariant-loop-g : goal.invariant-loop-g
 invariant-loop-g l = record {
   made : length l.groups.items ≡ l.g;
-  groups : AreGroups l.boxes l.groups.items;
+  groups : AreGroups l.lines l.pieces l.groups.items;
 }

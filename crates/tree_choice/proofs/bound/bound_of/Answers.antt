@@ -10,12 +10,12 @@ use Rattle.tree_choice.proofs.bound.bound_of.Goals as goal
 
 pub count_by_boxes-requires-clause-list : goal.count_by_boxes-requires-clause-list
 count_by_boxes-requires-clause-list c =
-    let l = length_permutation c.args.pieces.now c.args.ordered.now c.requires.ordered in
+    let l = length_permutation c.args.pieces.now c.args.ordered.now.pieces.now c.requires.ordered in
     let f = c.requires.few in
     record {
-      each = All-permutation (IsPiece c.args.lines.now) c.args.pieces.now c.args.ordered.now c.requires.ordered c.requires.pieces;
+      each = All-permutation (IsPiece c.args.lines.now) c.args.pieces.now c.args.ordered.now.pieces.now c.requires.ordered c.requires.pieces;
       few = omega arith;
-      ends = c.requires.noted;
+      ends = c.requires.ends;
       blocks = c.requires.blocks;
       corners = c.requires.sides;
       groups = rw c.deref.ensures.value c.requires.groups;
@@ -33,5 +33,5 @@ returns-else-counts-eq0-clause-bound c =
     let within = line_known lines used p (c.requires.pieces at no_piece there) c.requires.known in
     let free = stands_at used p.line false within ∙ ap Some c.if-used-pieces.false in
     let counts = c.in-Some.counts in
-    let counted = reordered lines p ps c.args.ordered.now c.requires.ordered no_bound (Some counts) c.in-Some.ensures.counts in
+    let counted = reordered lines p ps c.args.ordered.now.pieces.now c.requires.ordered no_bound (Some counts) c.in-Some.ensures.counts in
     bound_found lines ps used at p counts (c.cost.result + 1) (stands_at ps at no_piece there) free counted c.if-counts-eq0.false (ap (λ k. k + 1) c.cost.ensures)

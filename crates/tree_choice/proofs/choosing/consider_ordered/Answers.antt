@@ -14,12 +14,12 @@ take_in-requires c = let w = slice_get_within c.args.pieces.now c.args.at c.args
 
 pub count_by_boxes-counted-requires-clause-list : goal.count_by_boxes-counted-requires-clause-list
 count_by_boxes-counted-requires-clause-list c =
-    let l = length_permutation c.args.pieces.now c.args.ordered.now c.requires.ordered in
+    let l = length_permutation c.args.pieces.now c.args.ordered.now.pieces.now c.requires.ordered in
     let f = c.requires.few in
     record {
-      each = All-permutation (IsPiece c.args.lines.now) c.args.pieces.now c.args.ordered.now c.requires.ordered c.requires.floors.pieces;
+      each = All-permutation (IsPiece c.args.lines.now) c.args.pieces.now c.args.ordered.now.pieces.now c.requires.ordered c.requires.floors.pieces;
       few = omega arith;
-      ends = rw c.has_earlier.ensures.ends c.requires.noted;
+      ends = c.requires.ends;
       blocks = c.requires.blocks;
       corners = rw c.has_earlier.ensures.sides c.requires.sides;
       groups = rw (c.deref.ensures.value, c.has_earlier.ensures.groups) c.requires.groups;
@@ -47,7 +47,7 @@ returns-clause-so_far c =
     let within = line_known lines used p c.requires.piece c.requires.known in
     let free = stands_at used p.line false within ∙ ap Some c.if-used-piece.false in
     let o = c.count_by_boxes-counted.result in
-    let e = reordered lines p ps c.args.ordered.now c.requires.ordered c.far_limit-far.result o c.count_by_boxes-counted.ensures.counts in
+    let e = reordered lines p ps c.args.ordered.now.pieces.now c.requires.ordered c.far_limit-far.result o c.count_by_boxes-counted.ensures.counts in
     let m = nearer lines p ps c.limit_of-limit.result c.far_limit-far.result o c.far_limit-far.ensures e in
     subst (SoFar lines ps used c.args.bound (c.args.at + 1)) (sym c.take_in.ensures)
     (taken lines ps used c.args.bound c.args.at p c.requires.stands c.limit_of-limit.result c.args.best o c.limit_of-limit.ensures c.requires.so_far free m)
@@ -61,7 +61,7 @@ returns-clause-floors c =
     record {
       pieces = c.requires.floors.pieces;
       known = c.note_floor.ensures lines ps ps p c.requires.floors.known c.requires.stands
-          (reordered lines p ps c.args.ordered.now c.requires.ordered c.far_limit-far.result o c.count_by_boxes-counted.ensures.counts);
+          (reordered lines p ps c.args.ordered.now.pieces.now c.requires.ordered c.far_limit-far.result o c.count_by_boxes-counted.ensures.counts);
     }
 
 pub returns-then-used-piece-clause-so_far : goal.returns-then-used-piece-clause-so_far

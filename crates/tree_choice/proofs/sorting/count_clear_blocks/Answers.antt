@@ -1,4 +1,4 @@
-use Rattle.std.proofs.Common.{rules, Bool, set, refl, sym, ◌+◌, ◌*◌, ◌<◌, length, take, drop, get_or, subst, ap, ◌∙◌, arith, All}
+use Rattle.std.proofs.Common.{rules, Bool, set, sym, ◌+◌, ◌*◌, ◌<◌, length, take, drop, get_or, subst, ap, ◌∙◌, arith, All}
 use Rattle.std.proofs.lemmas.List.Elements.{All-take, All-drop}
 use Rattle.std.proofs.lemmas.List.{get_or-replicate, length-set}
 use Rattle.std.specs.Prelude.{ℤ, pos, ◌<ℤ◌, nat_eq, bit_or, FitsSigned}
@@ -8,11 +8,11 @@ use Rattle.tree_choice.specs.Sorting.{AreClearBlocks}
 use Rattle.lump_records.specs.declared.plane.Ray.{Ray}
 use Rattle.tree_pieces.specs.Plane.{vertex_value}
 use Rattle.tree_pieces.specs.Pieces.{IsPiece}
-use Rattle.tree_pieces.specs.Boxes.{least_value, greatest_value, boxes_of}
+use Rattle.tree_pieces.specs.Boxes.{least_value, greatest_value}
 use Rattle.tree_pieces.proofs.BlockCounts.{block_right, block_left}
 use Rattle.tree_choice.specs.Sights.{IsNormal, low_corner, high_corner}
 use Rattle.tree_choice.proofs.Best.{stands_at}
-use Rattle.tree_choice.proofs.BoxLemmas.{no_box, block_holds, boxes_length}
+use Rattle.tree_choice.proofs.BoxLemmas.{no_box}
 use Rattle.tree_choice.proofs.Columns.{column_length, read}
 use Rattle.tree_choice.proofs.Corners.{low_is, high_is, no_vertex, place_by_16}
 use Rattle.tree_choice.proofs.ClearBlocks.{no_blocks, blocks_step, at_most_one, flag_is}
@@ -26,7 +26,6 @@ has_box c =
     let t = c.loop-n-test.true in
     let w = c.requires.whole in
     let n = c.requires.blocks.boxes.enough in
-    let same = boxes_length c.args.by.now.lines.now ps (boxes_of c.args.by.now.lines.now ps) refl in
     omega arith
 
 pub bounds-lows-k : goal.bounds-lows-k
@@ -78,7 +77,7 @@ loop-n-preserved c =
     let b = get_or blocks k no_box in
     let block = take 16 (drop (16 * k) ps) in
     let ok : All (IsPiece lines) block = All-take (IsPiece lines) 16 (drop (16 * k) ps) (All-drop (IsPiece lines) (16 * k) ps c.requires.blocks.each) in
-    let holds = block_holds lines ps blocks k b c.requires.blocks.boxes (stands_at blocks k no_box w) in
+    let holds = c.requires.blocks.boxes.holds k b (stands_at blocks k no_box w) in
     let lr = read (low_corner r) blocks c.args.blocks.now.lows.now k no_vertex no_box w c.requires.blocks.corners.lows_are in
     let hr = read (high_corner r) blocks c.args.blocks.now.highs.now k no_vertex no_box w c.requires.blocks.corners.highs_are in
     let ka : FitsSigned w16 (get_or c.args.blocks.now.lows.now k no_vertex).x = search rules in

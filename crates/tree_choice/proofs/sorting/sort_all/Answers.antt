@@ -1,9 +1,9 @@
 use Rattle.std.proofs.Common.{◌+◌, ◌*◌, ◌/◌, min, refl, sym, ap, subst, take, drop, get_or, length, arith, List, All}
 use Rattle.tree_pieces.specs.declared.piece.Piece.{Piece}
-use Rattle.tree_pieces.specs.Boxes.{HoldsPiece, boxes_of}
+use Rattle.tree_pieces.specs.Boxes.{HoldsPiece}
 use Rattle.tree_choice.specs.Sorting.{IsSorted}
 use Rattle.tree_choice.proofs.Best.{stands_at}
-use Rattle.tree_choice.proofs.BoxLemmas.{no_box, group_holds, boxes_length}
+use Rattle.tree_choice.proofs.BoxLemmas.{no_box}
 use Rattle.tree_choice.proofs.OpenBlocks.{same_sorted}
 use Rattle.tree_choice.proofs.sorting.sort_all.Goals as goal
 
@@ -13,7 +13,7 @@ sort_group-sorted-requires-clause-holds c =
     let groups = c.args.list.now.groups.now in
     let g = c.loop-g.g in
     subst (λ (ps : List Piece). All (HoldsPiece lines (get_or groups g no_box)) (take 256 (drop (256 * g) ps))) (sym c.blocks_for-blocks.ensures.pieces)
-    (group_holds lines c.args.list.now.pieces.now groups g _ c.requires.list.groups (stands_at groups g no_box c.loop-g-test.true))
+    (c.requires.list.groups.holds g (get_or groups g no_box) (stands_at groups g no_box c.loop-g-test.true))
 
 pub sort_blocks-sorted-requires-clause-before : goal.sort_blocks-sorted-requires-clause-before
 sort_blocks-sorted-requires-clause-before c =
@@ -30,7 +30,6 @@ loop-g-2-init c =
     let f = c.loop-g-test.false in
     let e = c.loop-g.auto.g-end in
     let w = c.requires.list.groups.within in
-    let same = boxes_length c.args.by.now.lines.now c.args.list.now.pieces.now (boxes_of c.args.by.now.lines.now c.args.list.now.pieces.now) refl in
     let listed = ap length c.blocks_for-blocks.ensures.pieces in
     same_sorted c.args.by.now.lines.now c.args.by.now.piece.now ps (256 * c.loop-g.g) (16 * min (16 * length c.args.list.now.groups.now) (length ps / 16))
     s.right s.right s.left s.left s.count s.count c.loop-g.noted c.loop-g.noted c.loop-g.invariant (omega arith) refl refl refl refl

@@ -1,8 +1,6 @@
 use Rattle.std.proofs.Common.{refl, ◌+◌, ◌-◌, ◌*◌, ◌≤◌, length, take, arith}
 use Rattle.std.proofs.lemmas.List.{length-take}
-use Rattle.tree_pieces.specs.Boxes.{boxes_of}
 use Rattle.tree_choice.specs.Sorting.{flagged_numbers}
-use Rattle.tree_choice.proofs.BoxLemmas.{boxes_length}
 use Rattle.tree_choice.proofs.OpenBlocks.{same_sorted}
 use Rattle.tree_choice.proofs.ClearBlocks.{blocks_sorted, numbers_begin}
 use Rattle.tree_choice.proofs.sorting.sort_blocks.Goals as goal
@@ -15,7 +13,6 @@ has_room c =
     let f = c.requires.run.forward in
     let w = c.requires.run.whole in
     let n = c.requires.blocks.boxes.enough in
-    let same = boxes_length c.args.by.now.lines.now ps (boxes_of c.args.by.now.lines.now ps) refl in
     let few = c.requires.before.fewer in
     let room = c.requires.room in
     omega arith

@@ -4,11 +4,11 @@ use Rattle.std.proofs.lemmas.List.Elements.{All-take, All-drop}
 use Rattle.std.specs.Prelude.{pos, ◌<ℤ◌}
 use Rattle.lump_records.specs.declared.plane.Ray.{Ray}
 use Rattle.tree_pieces.specs.Pieces.{IsPiece}
-use Rattle.tree_pieces.specs.Boxes.{least_value, greatest_value, boxes_of}
+use Rattle.tree_pieces.specs.Boxes.{least_value, greatest_value}
 use Rattle.tree_pieces.proofs.BlockCounts.{block_right, block_left}
 use Rattle.tree_choice.specs.Sorting.{block_at}
 use Rattle.tree_choice.proofs.Best.{stands_at}
-use Rattle.tree_choice.proofs.BoxLemmas.{no_box, block_holds, boxes_length}
+use Rattle.tree_choice.proofs.BoxLemmas.{no_box}
 use Rattle.tree_choice.proofs.OpenBlocks.{counts_are}
 use Rattle.tree_choice.proofs.sorting.sort_last.Goals as goal
 use Rattle.tree_choice.proofs.sorting.sort_last.Goals.{After-sides_of_box-sides}
@@ -26,7 +26,6 @@ rest c =
     let w = c.requires.whole in
     let last = c.requires.last in
     let n = c.requires.blocks.boxes.enough in
-    let same = boxes_length c.args.by.now.lines.now ps (boxes_of c.args.by.now.lines.now ps) refl in
     let lt = length-take 16 (drop (16 * k) ps) in
     let ld = length-drop (16 * k) ps in
     record { block = omega arith; size = omega arith }
@@ -45,7 +44,7 @@ add_block-requires-clause-sides c =
     let w = rest (goal.at.add_block-requires-clause-sides c).After-sides_of_box-sides in
     let block = block_at ps k in
     let ok : All (IsPiece lines) block = All-take (IsPiece lines) 16 (drop (16 * k) ps) (All-drop (IsPiece lines) (16 * k) ps c.requires.blocks.each) in
-    let holds = block_holds lines ps boxes k b c.requires.blocks.boxes (stands_at boxes k no_box w.block) in
+    let holds = c.requires.blocks.boxes.holds k b (stands_at boxes k no_box w.block) in
     record {
       right = λ h.
           let least = subst (λ (x : Ray). pos 0 <ℤ least_value x b) c.requires.candidate.ray (c.sides_of_box-sides.ensures.right h) in

@@ -1,7 +1,7 @@
 use Rattle.std.proofs.Common.{◌≡◌, ◌∙◌, refl, subst, arith, Bool, List}
 use Rattle.tree_pieces.specs.Tree.{HasNoChoice}
 use Rattle.tree_nodes.specs.Growth.{IsListStep, IsDivision}
-use Rattle.tree_nodes.proofs.Growing.{division_of, boxes_are, leaf_of}
+use Rattle.tree_nodes.proofs.Growing.{division_of, lists_are, leaf_of}
 use Rattle.tree_nodes.proofs.Opening.{leaf_next_refused, leaf_next_grown, deep_next, line_known, node_next_opened}
 use Rattle.tree_nodes.proofs.open_tree.divide_next.Goals as goal
 use Rattle.tree_nodes.proofs.open_tree.divide_next.Goals.{In-Leaf, In-Parts}
@@ -41,8 +41,8 @@ open_node-requires c =
 
 pub returns-clause-node : goal.returns-clause-node
 returns-clause-node c =
-    let boxed = boxes_are c.args.lines.now c.in-Ok.step c.in-Parts.partition c.in-Parts.right c.in-Parts.left c.in-Parts.is c.in-Ok.ensures.boxed in
+    let listed = lists_are c.args.lines.now c.in-Ok.step c.in-Parts.partition c.in-Parts.right c.in-Parts.left c.in-Parts.is c.in-Ok.ensures.lists in
     let some = c.if-room-eq0.false in
     λ _. node_next_opened c.args.lines.now c.args.room c.args.tree.now _ c.pop.new.self.items c.in-Some.list c.in-Some.ensures.items
     (record { lists = refl; partitions = refl; children = refl; used = refl; grown = refl }) c.in-Parts.partition c.in-Parts.right c.in-Parts.left
-    (division (goal.at.returns-clause-node c).In-Parts) c.open_node.new.tree boxed (omega arith) c.in-Ok-open_node.ensures
+    (division (goal.at.returns-clause-node c).In-Parts) c.open_node.new.tree listed (omega arith) c.in-Ok-open_node.ensures

@@ -14,7 +14,7 @@ grow_next-requires c =
       lists = made.lists;
       divisible = record {
         reached = subst (λ (u : Vec Bool Global). IsReached c.args.lines.now u.items c.args.list.pieces.items) (sym made.used) c.requires.reached;
-        boxed = c.requires.boxed;
+        listed = c.requires.placed;
         some = c.requires.some;
         few = c.requires.few;
         fewer = let n = ap (λ (g : Grown). length g.nodes.items) made.grown in let s = ap (λ (g : Grown). length g.counts.items) made.grown in omega (arith, n, s, c.requires.fewer);

@@ -1,13 +1,13 @@
 use Rattle.std.proofs.Common.{◌≡◌, ◌++◌, drop}
 use Rattle.tree_pieces.specs.Division.{right_parts, left_parts}
-use Rattle.tree_nodes.specs.Boxed.{IsBoxed}
+use Rattle.tree_choice.specs.Columns.{IsEnded}
 use Rattle.tree_nodes.proofs.parting.part_list.Given as goal
 
--- what is listed with its boxes, and what the pieces from here on will add
+-- what is listed with its ends, and what the pieces from here on will add
 abbrev pub invariant-loop-n : goal.invariant-loop-n
 invariant-loop-n l = record {
-  right : l.right.pieces.items ++ right_parts l.lines l.partition (drop l.n l.pieces) ≡ right_parts l.lines l.partition l.pieces;
-  left : l.left.pieces.items ++ left_parts l.lines l.partition (drop l.n l.pieces) ≡ left_parts l.lines l.partition l.pieces;
-  right_boxed : IsBoxed l.lines l.right;
-  left_boxed : IsBoxed l.lines l.left;
+  right : l.right.pieces.items ++ right_parts l.lines l.partition (drop l.n l.list.pieces.now) ≡ right_parts l.lines l.partition l.list.pieces.now;
+  left : l.left.pieces.items ++ left_parts l.lines l.partition (drop l.n l.list.pieces.now) ≡ left_parts l.lines l.partition l.list.pieces.now;
+  right_ended : IsEnded l.lines l.right;
+  left_ended : IsEnded l.lines l.left;
 }

@@ -3,4 +3,4 @@ use Rattle.tree_nodes.proofs.step.choice_of_few.Goals as goal
 
 pub choose_in_boxes-requires-clause-blocks : goal.choose_in_boxes-requires-clause-blocks
 choose_in_boxes-requires-clause-blocks c =
-    one_block c.args.lines.now c.args.list.now c.args.boxes.now c.are_drawn.ensures c.requires.pieces c.requires.boxes c.requires.some c.requires.few
+    one_block c.args.lines.now c.args.list.now.pieces.now c.are_drawn.ensures c.requires.list.each c.requires.some c.requires.few

@@ -1,53 +1,59 @@
--- Boxes beside pieces: a piece that isn't split keeps its own, and one more part is put down with its box.
-use Rattle.std.proofs.Common.{◌≡◌, refl, sym, ap, ◌∙◌, subst, ℕ, zero, suc, ◌+◌, ◌<◌, Bool, true, false, ◌&&◌, List, [], ◌∷◌, ◌++◌, append_assoc, length, get_or, drop, Option, Some, None, Result, Ok, Err, add-one, arith, drop-cons}
+-- Rounded ends beside pieces: a piece that isn't split keeps its own, and one more part is put down with its ends.
+use Rattle.std.proofs.Common.{◌≡◌, refl, sym, ap, ◌∙◌, subst, ℕ, ◌+◌, ◌<◌, Bool, true, false, ◌&&◌, List, [], ◌∷◌, ◌++◌, append_assoc, length, get_or, drop, Option, Some, None, Result, Ok, Err, add-one, drop-cons}
 use Rattle.std.specs.Prelude.{pos, int_lt, filter_map, option_to_list, is_some, IfSome, OnOk, if◌then◌else◌}
 use Rattle.std.specs.List.{cons_option}
 use Rattle.lump_records.specs.declared.records.Vertex.{Vertex}
-use Rattle.lump_records.specs.declared.records.Bounds.{Bounds}
 use Rattle.tree_pieces.specs.declared.edge.Edge.{Edge}
 use Rattle.tree_pieces.specs.declared.frac.Frac.{Frac}
 use Rattle.tree_pieces.specs.declared.piece.Piece.{Piece}
+use Rattle.tree_pieces.specs.declared.piece.Ends.{Ends}
 use Rattle.tree_pieces.specs.declared.piece.Parts.{Parts}
 use Rattle.tree_pieces.specs.declared.piece.Place.{Place}
 use Rattle.tree_pieces.specs.declared.piece.Place.TheVariants.{Right, Left, Across}
 use Rattle.tree_pieces.specs.Fractions.{point_at, crossing}
-use Rattle.tree_pieces.specs.Pieces.{IsPiece, edge_of, ray_of, same_place}
+use Rattle.tree_pieces.specs.Pieces.{IsPiece, edge_of, ray_of, first_end, last_end, ends_of, same_place}
 use Rattle.tree_pieces.specs.Division.{parts_of, parts_by, place_of_piece, value_by, cut_at, right_parts, left_parts, IsDivided}
-use Rattle.tree_pieces.specs.Boxes.{box_of, boxes_of, widened}
 use Rattle.tree_pieces.proofs.Division.{same_vertex_is}
+use Rattle.std.proofs.lemmas.List.{map-append}
+use Rattle.std.specs.Prelude.{map}
+use Rattle.tree_choice.specs.declared.ends.EndedList.{EndedList}
+use Rattle.tree_choice.specs.Columns.{IsEnded}
 
 -- ---- a piece that isn't split
--- the part of a piece whose other part is left out has the piece's box
-abbrev HasBox : List Edge → Bounds → Option Piece → Type 0
-HasBox lines b o = IfSome o (λ q. b ≡ box_of lines q)
+-- the part of a piece whose other part is left out has the piece's ends
+abbrev HasEnds : List Edge → Ends → Option Piece → Type 0
+HasEnds lines b o = IfSome o (λ q. b ≡ ends_of lines q)
 
 abbrev is_split : Parts → Bool
 is_split x = is_some x.right && is_some x.left
 
--- what a piece's box holds of its parts where it isn't split
-record KeepBox (lines : List Edge) (b : Bounds) (x : Parts) : Type 0 where
-  right : HasBox lines b x.right
-  left : HasBox lines b x.left
+-- the ends of a piece are those of its parts where it isn't split
+record KeepEnds (lines : List Edge) (b : Ends) (x : Parts) : Type 0 where
+  right : HasEnds lines b x.right
+  left : HasEnds lines b x.left
 
-module _ (lines : List Edge) (p : Piece) (b : Bounds) (own : b ≡ box_of lines p) where
+module _ (lines : List Edge) (p : Piece) (b : Ends) (own : b ≡ ends_of lines p) where
   abbrev start : Vertex
   start = point_at (edge_of lines p) p.from
 
   abbrev end : Vertex
   end = point_at (edge_of lines p) p.to
 
-  before_has : (at : Frac) → same_place (point_at (edge_of lines p) at) end ≡ true → b ≡ box_of lines (record p { to = at })
-  before_has at e = own ∙ ap (widened start) (sym (same_vertex_is (point_at (edge_of lines p) at) end e))
+  abbrev made : Vertex → Vertex → Ends
+  made u v = record { first = u; last = v }
 
-  after_has : (at : Frac) → same_place start (point_at (edge_of lines p) at) ≡ true → b ≡ box_of lines (record p { from = at })
-  after_has at e = own ∙ ap (λ (v : Vertex). widened v end) (same_vertex_is start (point_at (edge_of lines p) at) e)
+  before_has : (at : Frac) → same_place (point_at (edge_of lines p) at) end ≡ true → b ≡ ends_of lines (record p { to = at })
+  before_has at e = own ∙ ap (made start) (sym (same_vertex_is (point_at (edge_of lines p) at) end e))
 
-  by_start : (at : Frac) (right : Bool) → is_split (cut_at lines p at right) ≡ false → KeepBox lines b (cut_at lines p at right)
+  after_has : (at : Frac) → same_place start (point_at (edge_of lines p) at) ≡ true → b ≡ ends_of lines (record p { from = at })
+  after_has at e = own ∙ ap (λ (v : Vertex). made v end) (same_vertex_is start (point_at (edge_of lines p) at) e)
+
+  by_start : (at : Frac) (right : Bool) → is_split (cut_at lines p at right) ≡ false → KeepEnds lines b (cut_at lines p at right)
   by_start at true = tests (same_place start (point_at (edge_of lines p) at)) (same_place (point_at (edge_of lines p) at) end) refl refl
     where
       tests : (x y : Bool) → same_place start (point_at (edge_of lines p) at) ≡ x → same_place (point_at (edge_of lines p) at) end ≡ y →
           (is_some (if x then None else Some (record p { to = at })) && is_some (if y then None else Some (record p { from = at }))) ≡ false →
-          KeepBox lines b (record { right = (if x then None else Some (record p { to = at })); left = (if y then None else Some (record p { from = at })) })
+          KeepEnds lines b (record { right = (if x then None else Some (record p { to = at })); left = (if y then None else Some (record p { from = at })) })
       tests true true e f h = record { right = tt; left = tt }
       tests true false e f h = record { right = tt; left = after_has at e }
       tests false true e f h = record { right = before_has at f; left = tt }
@@ -56,24 +62,24 @@ module _ (lines : List Edge) (p : Piece) (b : Bounds) (own : b ≡ box_of lines 
     where
       tests : (x y : Bool) → same_place start (point_at (edge_of lines p) at) ≡ x → same_place (point_at (edge_of lines p) at) end ≡ y →
           (is_some (if y then None else Some (record p { from = at })) && is_some (if x then None else Some (record p { to = at }))) ≡ false →
-          KeepBox lines b (record { right = (if y then None else Some (record p { from = at })); left = (if x then None else Some (record p { to = at })) })
+          KeepEnds lines b (record { right = (if y then None else Some (record p { from = at })); left = (if x then None else Some (record p { to = at })) })
       tests true true e f h = record { right = tt; left = tt }
       tests true false e f h = record { right = after_has at e; left = tt }
       tests false true e f h = record { right = tt; left = before_has at f }
       tests false false e f h = cc
 
-  unsplit_by : (partition : Piece) (place : Place) → is_split (parts_by lines partition p place) ≡ false → KeepBox lines b (parts_by lines partition p place)
+  unsplit_by : (partition : Piece) (place : Place) → is_split (parts_by lines partition p place) ≡ false → KeepEnds lines b (parts_by lines partition p place)
   unsplit_by partition Right h = record { right = own; left = tt }
   unsplit_by partition Left h = record { right = tt; left = own }
   unsplit_by partition Across h = by_start (crossing (ray_of lines partition) (edge_of lines p)) (int_lt (pos 0) (value_by lines partition p p.from)) h
 
-  unsplit : (partition : Piece) (parts : Parts) → parts ≡ parts_of lines partition p → (is_some parts.right && is_some parts.left) ≡ false → KeepBox lines b parts
-  unsplit partition parts e h = subst (KeepBox lines b) (sym e) (unsplit_by partition (place_of_piece lines partition p) (subst (λ (x : Parts). is_split x ≡ false) e h))
+  unsplit : (partition : Piece) (parts : Parts) → parts ≡ parts_of lines partition p → (is_some parts.right && is_some parts.left) ≡ false → KeepEnds lines b parts
+  unsplit partition parts e h = subst (KeepEnds lines b) (sym e) (unsplit_by partition (place_of_piece lines partition p) (subst (λ (x : Parts). is_split x ≡ false) e h))
 
-  pub right_keeps : (partition : Piece) (parts : Parts) → parts ≡ parts_of lines partition p → (is_some parts.right && is_some parts.left) ≡ false → IfSome parts.right (λ q. b ≡ box_of lines q)
+  pub right_keeps : (partition : Piece) (parts : Parts) → parts ≡ parts_of lines partition p → (is_some parts.right && is_some parts.left) ≡ false → IfSome parts.right (λ q. b ≡ ends_of lines q)
   right_keeps partition parts e h = (unsplit partition parts e h).right
 
-  pub left_keeps : (partition : Piece) (parts : Parts) → parts ≡ parts_of lines partition p → (is_some parts.right && is_some parts.left) ≡ false → IfSome parts.left (λ q. b ≡ box_of lines q)
+  pub left_keeps : (partition : Piece) (parts : Parts) → parts ≡ parts_of lines partition p → (is_some parts.right && is_some parts.left) ≡ false → IfSome parts.left (λ q. b ≡ ends_of lines q)
   left_keeps partition parts e h = (unsplit partition parts e h).left
 
 -- the parts of a division are pieces
@@ -115,12 +121,6 @@ gained f ps n d old new h e k =
     front None qs = refl
     front (Some x) qs = refl
 
--- the box at a place
-pub box_there : (lines : List Edge) (ps : List Piece) (n : ℕ) (d : Bounds) (e : Piece) → n < length ps → get_or (boxes_of lines ps) n d ≡ box_of lines (get_or ps n e)
-box_there lines [] n d e h = absurd (omega arith)
-box_there lines (p ∷ ps) zero d e h = refl
-box_there lines (p ∷ ps) (suc n) d e h = box_there lines ps n d e (omega arith)
-
 -- a piece goes to one side whole, and the other one gains nothing
 pub nothing_more : {X E : Type 0} (r : Result X E) (xs : List Piece) → OnOk r (xs ≡ xs ++ [])
 nothing_more (Ok x) xs = same xs
@@ -129,3 +129,22 @@ nothing_more (Ok x) xs = same xs
     same [] = refl
     same (y ∷ ys) = ap (λ (l : List Piece). y ∷ l) (same ys)
 nothing_more (Err e) xs = tt
+
+-- one more piece is put down with its ends
+ends_more : (lines : List Edge) (list list' : EndedList) (q : Piece) (e : Ends) → IsEnded lines list → e ≡ ends_of lines q
+    → list'.pieces.items ≡ list.pieces.items ++ q ∷ [] → list'.firsts.items ≡ list.firsts.items ++ e.first ∷ []
+    → list'.lasts.items ≡ list.lasts.items ++ e.last ∷ [] → IsEnded lines list'
+ends_more lines list list' q e h own p f l =
+    let ps = list.pieces.items in
+    record {
+      firsts_are = f ∙ ap (λ (x : Ends). list.firsts.items ++ x.first ∷ []) own ∙ ap (λ (xs : List Vertex). xs ++ first_end lines q ∷ []) h.firsts_are
+          ∙ sym (map-append (first_end lines) ps (q ∷ [])) ∙ ap (map (first_end lines)) (sym p);
+      lasts_are = l ∙ ap (λ (x : Ends). list.lasts.items ++ x.last ∷ []) own ∙ ap (λ (xs : List Vertex). xs ++ last_end lines q ∷ []) h.lasts_are
+          ∙ sym (map-append (last_end lines) ps (q ∷ [])) ∙ ap (map (last_end lines)) (sym p);
+    }
+
+pub pushed_ended : {X E : Type 0} (lines : List Edge) (r : Result X E) (list list' : EndedList) (q : Piece) (e : Ends) → IsEnded lines list → e ≡ ends_of lines q
+    → OnOk r (list'.pieces.items ≡ list.pieces.items ++ q ∷ []) → OnOk r (list'.firsts.items ≡ list.firsts.items ++ e.first ∷ [])
+    → OnOk r (list'.lasts.items ≡ list.lasts.items ++ e.last ∷ []) → OnOk r (IsEnded lines list')
+pushed_ended lines (Ok x) list list' q e h own p f l = ends_more lines list list' q e h own p f l
+pushed_ended lines (Err x) list list' q e h own p f l = tt
