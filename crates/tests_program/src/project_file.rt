@@ -11,7 +11,7 @@ use tests_runs::streams::Narrow;
 // Calls over a file, which isn't there at first.
 const FILE_ROWS: &str = "\
     edit leveled_project_run_file~vertex 0 0\n~1~~leveled: 30 Device\n\
-    \x20 leveled_project_run_file: No such file or directory\n^\
+    \x20 leveled_project_run_file: No such file or directory\n  `leveled create FILE` makes a project\n^\
     check leveled_project_run_file~~1~~leveled: 30 Device\n  leveled_project_run_file: No such file or directory\n^\
     dump leveled_project_run_file~~1~~leveled: 30 Device\n  leveled_project_run_file: No such file or directory\n^\
     lint leveled_project_run_file~~1~~leveled: 30 Device\n  leveled_project_run_file: No such file or directory\n^\

@@ -34,7 +34,7 @@ const RUNS: &str = "\
     draw leveled_scripts_file leveled_scripts_missing~vertex 2 2\n~1~~leveled: 37 ReaderFailed\n\
     \x20 leveled_scripts_missing: No such file or directory\n^\
     draw leveled_scripts_missing leveled_scripts_script~~1~~leveled: 30 Device\n\
-    \x20 leveled_scripts_missing: No such file or directory\n^\
+    \x20 leveled_scripts_missing: No such file or directory\n  `leveled create FILE` makes a project\n^\
     check leveled_scripts_script~~3~~leveled_scripts_script:3: vertx $here 9: 1 NotACommand\n\
     \x20 perhaps this is meant: vertex X Y\n^\
     build leveled_scripts_script leveled_scripts_missing~~3~~\
