@@ -3,6 +3,7 @@ pub mod Commands
 pub mod Counts
 pub mod Cutting
 pub mod Drawing
+pub mod FormsOfAll
 pub mod Lines
 pub mod LowFaults
 pub mod NumbersBack

@@ -1,5 +1,5 @@
 -- A word that is a numeral, as `parse` reads it.
-use Rattle.std.proofs.Common.{◌≡◌, ℕ, suc, zero, ◌≤◌, ◌<◌, ◌^◌, Bool, true, false, cond, ◌&&◌, List, [], ◌∷◌, length, get_or, refl, sym, ◌∙◌, ap, arith, ℤ, pos, negsuc, nat_eq, FitsSigned, inl, inr, min, Option, Some, None, subst, drop, take, ◌+◌, ◌*◌, ◌-◌, ◌-ℤ◌, to_z, of_z, eq-eqb, length-drop, lit<}
+use Rattle.std.proofs.Common.{◌≡◌, ℕ, suc, zero, ◌≤◌, ◌<◌, ◌^◌, Bool, true, false, cond, ◌&&◌, List, [], ◌∷◌, length, get_or, refl, sym, ◌∙◌, ap, arith, ℤ, pos, negsuc, nat_eq, FitsSigned, inl, inr, min, Option, Some, None, subst, drop, take, ◌+◌, ◌*◌, ◌-◌, ◌-ℤ◌, to_z, of_z, eq-eqb, length-drop, length-take-le, lit<}
 use Rattle.std.specs.Prelude.{decimal, neg_ℤ, int_le, nat_le, not, bytes_eq, codes}
 use Rattle.std.specs.Int.{w16, w32}
 use Rattle.std.specs.Fmt.{signed_decimal, digits}
@@ -10,14 +10,16 @@ use Rattle.std.proofs.lemmas.Bool.{and_from, cases_lt, eqb-true, le-leb, leb-tru
 use Rattle.std.proofs.lemmas.Str.{digit_value_digit}
 use Rattle.std.proofs.lemmas.Int.Digits.{digits_value_more}
 use Rattle.std.proofs.lemmas.Str.Parse.{IsNumeralModel, numerals_by_value, tells_all_ascii_digits}
-use Rattle.std.proofs.lemmas.List.{take_all}
+use Rattle.std.proofs.lemmas.List.{get_or-take, take_all}
+use Rattle.std.proofs.lemmas.List.Folds.{list_all_at}
 use Rattle.std.proofs.lemmas.Int.{ints, to_z-of_z}
 use Rattle.std.proofs.lemmas.Float.{T_from_true}
 use Rattle.std.specs.Int.Signed.{le_z_yes}
 use Rattle.std.proofs.lemmas.Fmt.{decimal-digits_value, digits_decimal, digits_value-decimal, decimal_nonempty, first_decimal}
 use Rattle.lump_records.specs.Drawing.{IsBetween}
 use Rattle.lump_records.specs.Names.{is_digit, is_nonzero_digit}
-use Rattle.map_commands.specs.Words.{clamped, has_natural_front, is_numeral, is_natural, numeral_value}
+use Rattle.map_commands.specs.Words.{clamped, has_natural_front, is_numeral, is_natural, numeral_value, parts}
+use Rattle.map_commands.proofs.Parts.{parts-at, parts-none}
 use Rattle.map_commands.specs.Places.{place_fault, Number}
 
 own : IsNumeralModel (λ ds. all_ascii_digits ds ≡ true) (digits_value 10)
@@ -286,3 +288,47 @@ value-back (negsuc n) f =
 
 pub decimal-digits : (n : ℕ) → n < 2 ^ 64 → all_ascii_digits (decimal n) ≡ true
 decimal-digits n h = digits_decimal own n h
+
+-- a space isn't among digits
+no-space : (w : List ℕ) (len k : ℕ) → len ≤ length w → list_all is_digit (take len w) ≡ true → k < len → get_or w k 0 ≡ 32 → ⊥
+no-space w len k fits digits before space =
+    let no : is_digit (get_or (take len w) k 0) ≡ false = ap is_digit (get_or-take len w k 0 before ∙ space) in
+    let not_all = list_all_at is_digit (take len w) k 0 (omega (arith, length-take-le len w fits, before)) no in
+    let never : true ≡ false = sym digits ∙ not_all in
+    cc never
+
+-- the first digit of a number
+first-of : (w : List ℕ) (len : ℕ) → 0 < len → len ≤ length w → list_all is_digit (take len w) ≡ true → (48 ≤ get_or w 0 0) × (get_or w 0 0 ≤ 57)
+first-of w len some fits digits =
+    let here = get_or-take len w 0 0 some in
+    let range = first-digit (take len w) (digits-same (take len w) ∙ digits) (omega (arith, length-take-le len w fits, some)) in
+    (omega (arith, range.0, here), omega (arith, range.1, here))
+
+-- digits in front are what is written of their number
+module _ (w : List ℕ) (len value : ℕ) (some : 0 < len) (fits : len ≤ length w) (digits : list_all is_digit (take len w) ≡ true)
+    (front : get_or w 0 0 ≡ 48 → (len ≡ 1) × (value ≡ 0)) (is : value ≡ digits_value 10 (take len w)) (small : value < 2 ^ 64) where
+  written-front : decimal value ≡ take len w
+  written-front =
+      let long = length-take-le len w fits in
+      let range = first-of w len some fits digits in
+      let here = get_or-take len w 0 0 some in
+      let plain : IsPlain (take len w) = record {
+        digits = digits-same (take len w) ∙ digits;
+        some = omega (arith, long, some);
+        front = λ h. long ∙ (front (sym here ∙ h)).0;
+        low = omega (arith, range.0, here);
+        high = omega (arith, range.1, here);
+      } in
+      ap decimal is ∙ natural-written (take len w) plain (omega (arith, is, small))
+
+  -- in front of the first space
+  pub short-word : len < length w → get_or w len 0 ≡ 32 → parts w ≡ decimal value ∷ parts (take (length w - (len + 1)) (drop (len + 1) w))
+  short-word more space =
+      parts-at w len (λ k h. no-space w len k fits digits h) more space
+      ∙ ap (λ word. word ∷ parts (take (length w - (len + 1)) (drop (len + 1) w))) (sym written-front)
+
+  -- with nothing behind
+  pub last-word : length w ≤ len → parts w ≡ decimal value ∷ []
+  last-word none =
+      parts-none w (λ k h. no-space w len k fits digits (omega (arith, h, none)))
+      ∙ ap (λ word. word ∷ []) (sym (take_all len w none) ∙ sym written-front)

@@ -48,6 +48,17 @@ reads-fault old new p written w code e f at =
       text = λ h. absurd (first-some old.fault code (sym f ∙ h));
     }
 
+-- the word has no fault
+pub reads-fit : (old new : Reading) (p : Place) (w : List ℕ) → old.words ≡ w ∷ new.words → new.fault ≡ old.fault → place_fault p w ≡ None → Reads old new p w
+reads-fit old new p w e f at =
+    record {
+      fault = λ ps.
+          ap (λ ws. prior_fault old.fault (places_fault (p ∷ ps) ws)) e
+          ∙ ap (λ x. prior_fault old.fault (prior_fault x (places_fault ps new.words))) at
+          ∙ ap (λ x. prior_fault x (places_fault ps new.words)) (sym f);
+      text = λ h. (sym f ∙ h, e);
+    }
+
 -- one place more in front of those that were read
 pub took : (old new : Reading) (p : Place) (written : List ℕ) (rest : List (List ℕ)) → Reads old new p written
     → (new.fault ≡ None) × (new.words ≡ rest) → (old.fault ≡ None) × (old.words ≡ written ∷ rest)

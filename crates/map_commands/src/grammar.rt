@@ -123,19 +123,28 @@ pub fn head_text(head: Head) -> &'static str
     }
 }
 
-// Whether the word is this first word.
-fn is_head(word: &[u8], head: Head) -> bool
-    ensures { result ≡ bytes_eq word.now (head_word head) }
-{
-    word == head_text(head).as_bytes()
-}
-
 /// Which first word this is, if it is one.
 pub fn head_in(word: &[u8]) -> Option<Head>
     ensures value { result ≡ head_of word.now }
     ensures text { IfSome result (λ h. head_word h ≡ word.now) }
 {
-    HEADS.iter().copied().find(|head| is_head(word, *head))
+    match word {
+        b"name" => Some(Head::Name),
+        b"vertex" => Some(Head::Vertex),
+        b"sector" => Some(Head::Sector),
+        b"side" => Some(Head::Side),
+        b"line" => Some(Head::Line),
+        b"thing" => Some(Head::Thing),
+        b"move-vertex" => Some(Head::MoveVertex),
+        b"set-sector" => Some(Head::SetSector),
+        b"set-side" => Some(Head::SetSide),
+        b"set-line" => Some(Head::SetLine),
+        b"set-thing" => Some(Head::SetThing),
+        b"drop" => Some(Head::Drop),
+        b"room" => Some(Head::Room),
+        b"split" => Some(Head::Split),
+        _ => None,
+    }
 }
 
 // ---- What stands behind

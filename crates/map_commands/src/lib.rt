@@ -31,7 +31,7 @@ pub use kinds::{LAST_ITEM, LAST_SECTOR, kind_in, last_number};
 pub use layout::Layout;
 pub use need::growth_of;
 pub use project::{
-    ProjectCommand, Ready, accept_each_spelling, apply, commit, end_in_one_way,
+    ProjectCommand, Ready, accept_each_spelling, apply, commit, end_in_one_way, have_a_form_each,
     lead_to_one_project, need_of, parse, print, ready, spell_one_command,
 };
 pub use unread::UnreadWords;

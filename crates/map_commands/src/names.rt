@@ -25,7 +25,11 @@ pub fn name_in(word: &[u8]) -> Result<Name8, CommandError>
     ensures found { IfOk result (λ n. (name_text n ≡ word.now) × IsNamed is_name n) }
     ensures fault { TellsFault result (place_fault (Named is_name) word.now) }
 {
-    // A name is always a word, so only what is not a name needs the second test.
+    // the most common name first
+    if word == b"-".as_slice() {
+        return Ok(NO_TEXTURE);
+    }
+    // a name is always a word, so only what is not a name needs the second test
     if is_name(word) {
         return Ok(Name8::from_text(word));
     }

@@ -12,5 +12,7 @@ pub use changes::{apply, commit, ready};
 pub use command::{ProjectCommand, Ready};
 pub use decision::need_of;
 pub use grammar::parse;
-pub use laws::{accept_each_spelling, end_in_one_way, lead_to_one_project, spell_one_command};
+pub use laws::{
+    accept_each_spelling, end_in_one_way, have_a_form_each, lead_to_one_project, spell_one_command,
+};
 pub use spelling::print;

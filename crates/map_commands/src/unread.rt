@@ -2,7 +2,7 @@
 use crate::error::CommandError;
 use crate::kinds::LAST_ITEM;
 use crate::names::{FIRST_MAP, NO_TEXTURE, marker_in, name_in};
-use crate::words::{next_part, number_in};
+use crate::words::{next_part, number_in, short_number};
 use lump_records::{NO_SIDE, Name8};
 
 /// The words of a line that are still to be read, and the fault so far: `NotACommand` if that was found anywhere,
@@ -14,7 +14,7 @@ pub struct UnreadWords<'a> {
 }
 
 impl<'a> UnreadWords<'a> {
-    ghost use Rattle.std.specs.Prelude.{◌≡◌, [], ◌∷◌, pos, ◌<◌, ◌≤◌, ◌≤ℤ◌, ◌||◌, ◌==◌, nat_le, length, drop, IsTrue, Some, None, IfOk, IfErr, MatchBool, MatchOption, decimal, option_copied};
+    ghost use Rattle.std.specs.Prelude.{◌≡◌, [], ◌∷◌, pos, ◌<◌, ◌≤◌, ◌≤ℤ◌, ◌||◌, ◌==◌, nat_le, length, drop, IsTrue, Some, None, IfOk, IfErr, IfNone, IfSome, MatchBool, MatchOption, decimal, option_copied};
     ghost use Rattle.std.specs.Fmt.{signed_decimal};
     ghost use Rattle.lump_records.specs.Drawing.{IsBetween};
     ghost use Rattle.lump_records.specs.Names.{IsNamed, is_marker, is_name, name_text};
@@ -74,8 +74,25 @@ impl<'a> UnreadWords<'a> {
         }
     }
 
-    /// Reads a number between two bounds. After a fault it returns some number between them.
-    pub fn number(&mut self, low: i16, high: i16) -> i16
+    // Reads the next number, if it is a short one between two bounds; else it reads nothing.
+    fn short_number(&mut self, low: i16, high: i16) -> Option<i16>
+        ensures none { IfNone result (self.new ≡ self.old) }
+        ensures rest { IfSome result
+            (λ _. (reading self.new).words ≡ drop 1 (reading self.old).words) }
+        ensures reads { IfSome result (λ n. Reads (reading self.old) (reading self.new)
+            (Number low high) (signed_decimal n)) }
+        ensures range { IfSome result (IsBetween low high) }
+    {
+        let (n, behind) = short_number(self.rest?)?;
+        if n < i32::from(low) || i32::from(high) < n {
+            return None;
+        }
+        self.rest = behind;
+        Some(n as i16)
+    }
+
+    // Reads the next word as a number between two bounds. After a fault it returns some number between them.
+    fn any_number(&mut self, low: i16, high: i16) -> i16
         requires { low ≤ℤ high }
         ensures rest { (reading self.new).words ≡ drop 1 (reading self.old).words }
         ensures reads { Reads (reading self.old) (reading self.new) (Number low high)
@@ -94,6 +111,20 @@ impl<'a> UnreadWords<'a> {
                     low
                 }
             },
+        }
+    }
+
+    /// Reads a number between two bounds. After a fault it returns some number between them.
+    pub fn number(&mut self, low: i16, high: i16) -> i16
+        requires { low ≤ℤ high }
+        ensures rest { (reading self.new).words ≡ drop 1 (reading self.old).words }
+        ensures reads { Reads (reading self.old) (reading self.new) (Number low high)
+            (signed_decimal result) }
+        ensures range { IsBetween low high result }
+    {
+        match self.short_number(low, high) {
+            Some(n) => n,
+            None => self.any_number(low, high),
         }
     }
 
@@ -135,6 +166,7 @@ impl<'a> UnreadWords<'a> {
     }
 
     /// Reads the name of a flat or a texture. After a fault it returns some name.
+    #[inline]
     pub fn name(&mut self) -> Name8
         ensures rest { (reading self.new).words ≡ drop 1 (reading self.old).words }
         ensures reads { Reads (reading self.old) (reading self.new) (Named is_name)

@@ -1,5 +1,5 @@
 //! The parts of a line between its spaces, and those that are numbers.
-ghost use Rattle.std.specs.Prelude.{◌≡◌, ◌∷◌, ◌<◌, IfOk, IfNone, IfSome, false, length, min, option_copied, true};
+ghost use Rattle.std.specs.Prelude.{◌≡◌, ◌∷◌, ◌+◌, ◌<◌, ◌≤◌, IfOk, IfNone, IfSome, decimal, false, length, min, negsuc, option_copied, pos, true};
 ghost use Rattle.std.specs.Str.Parse.{digits_value};
 ghost use Rattle.std.specs.Fmt.{signed_decimal};
 ghost use Rattle.std.specs.List.{list_all};
@@ -120,5 +120,54 @@ pub fn number_in(word: &[u8], low: i16, high: i16) -> Result<i16, CommandError>
         Some(n) if i32::from(low) <= n && n <= i32::from(high) => Ok(n as i16),
         Some(_) => Err(CommandError::OutOfRange),
         None => Err(CommandError::NotACommand),
+    }
+}
+
+// The number of at most four digits in front of a text, and what stands behind the space after it, if there is one. The
+// loop has a fixed end, so that the compiler unrolls it.
+fn short_natural(text: &[u8]) -> Option<(u32, Option<&[u8]>)>
+    ensures word { IfSome result
+        (λ found. parts text.now ≡ decimal found.0 ∷ parts_behind (option_copied found.1)) }
+    ensures small { IfSome result (λ found. found.0 ≤ 9999) }
+{
+    if text.is_empty() || !is_digit(text[0]) {
+        return None;
+    }
+    let mut value = u32::from(text[0] - b'0');
+    for len in 1..5 {
+        if text.len() <= len {
+            return Some((value, None));
+        }
+        let byte = text[len];
+        if byte == b' ' {
+            return Some((value, Some(&text[len + 1..])));
+        }
+        if !is_digit(byte) || value == 0 {
+            return None;
+        }
+        value = 10 * value + u32::from(byte - b'0');
+    }
+    None
+}
+
+/// The number in front of a text, and what stands behind the space after it, if there is one: only a number of at most
+/// four digits, as most are.
+pub fn short_number(text: &[u8]) -> Option<(i32, Option<&[u8]>)>
+    ensures word { IfSome result
+        (λ found. parts text.now ≡ signed_decimal found.0 ∷ parts_behind (option_copied found.1)) }
+    ensures small { IfSome result (λ found. IsBetween (negsuc 9998) (pos 9999) found.0) }
+{
+    match text {
+        [b'-', digits @ ..] => {
+            let (n, behind) = short_natural(digits)?;
+            if n == 0 {
+                return None;
+            }
+            Some((-(n as i32), behind))
+        }
+        _ => {
+            let (n, behind) = short_natural(text)?;
+            Some((n as i32, behind))
+        }
     }
 }

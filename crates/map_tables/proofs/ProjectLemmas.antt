@@ -6,7 +6,7 @@ use Rattle.std.proofs.Math.ListN.{set}
 use Rattle.std.specs.List.{take-map, drop-map}
 use Rattle.std.proofs.lemmas.Bool.{cases_lt, and_cases, both_ways, not-false, ltb-true, ltb-false, lt-ltb, le-ltb, cond-true, cond-false}
 use Rattle.std.proofs.lemmas.Slice.Eq.{bytes_eq-Decides}
-use Rattle.std.proofs.lemmas.List.Sums.{fails_before_first, passes_at_first, position_or_len_is, sum_by-append, sum_by-cons}
+use Rattle.std.proofs.lemmas.List.Sums.{fails_before_first, passes_at_first, position_or_len_is, sum_by-append, sum_by-cons, sum_by-take-drop}
 use Rattle.std.proofs.lemmas.List.Quantifiers.{all_pairs_push, all_pairs_remove}
 use Rattle.std.proofs.lemmas.List.{map-append, length-set, length-map, get_or-map}
 use Rattle.std.proofs.lemmas.List.Elements.{All-set, All-push}
@@ -146,6 +146,24 @@ with_current_of v w same =
 
 sum_middle : (before behind : List Tables) (m : Tables) → sum_by part_len (before ++ m ∷ behind) ≡ sum_by part_len before + (part_len m + sum_by part_len behind)
 sum_middle before behind m = sum_by-append part_len before (m ∷ behind) ∙ ap (λ n. sum_by part_len before + n) (sum_by-cons part_len m behind)
+
+-- the length of a map's part
+abbrev pub len_of_part : MapView → ℕ
+len_of_part m = part_len m.tables
+
+-- the lengths of the parts of several maps
+sum_of_each : (items : List MapView) → sum_by part_len (tables_of_each items) ≡ sum_by len_of_part items
+sum_of_each [] = refl
+sum_of_each (m ∷ items) =
+    sum_by-cons part_len m.tables (tables_of_each items) ∙ ap (λ n. part_len m.tables + n) (sum_of_each items) ∙ sym (sum_by-cons len_of_part m items)
+
+-- the length of all parts: that of the current map's and those of the others
+pub sum_of_parts : (items : List MapView) (i : ℕ) (m : Tables)
+    → sum_by part_len (tables_of_each (take i items) ++ m ∷ tables_of_each (drop i items)) ≡ part_len m + sum_by len_of_part items
+sum_of_parts items i m =
+    let parts = sum_middle (tables_of_each (take i items)) (tables_of_each (drop i items)) m in
+    let whole = sum_by-take-drop len_of_part items i in
+    omega (arith, parts, sum_of_each (take i items), sum_of_each (drop i items), whole)
 
 -- the body's length changes only with that of the current map's part
 pub body_len_with : (v w : MapsView) → w.others ≡ v.others → body_len (project_of w) + part_len v.tables ≡ body_len (project_of v) + part_len w.tables

@@ -127,9 +127,9 @@ impl Maps {
     pub fn body_len(&self) -> u32
         ensures { result ≡ body_len (project_of self.now) }
     {
-        let mut len = 2;
-        for n in 0..self.len() {
-            len += self.nth(n as usize).part_len();
+        let mut len = 2 + self.map.part_len();
+        for other in self.others.as_slice() {
+            len += other.part_len();
         }
         len
     }

@@ -34,12 +34,10 @@ fn map_head_in(word: &[u8]) -> Option<MapHead>
     ensures value { result ≡ map_head_of word.now }
     ensures text { IfSome result (λ h. map_word h ≡ word.now) }
 {
-    if word == map_text(MapHead::Select).as_bytes() {
-        Some(MapHead::Select)
-    } else if word == map_text(MapHead::Drop).as_bytes() {
-        Some(MapHead::Drop)
-    } else {
-        None
+    match word {
+        b"map" => Some(MapHead::Select),
+        b"drop-map" => Some(MapHead::Drop),
+        _ => None,
     }
 }
 

@@ -4,7 +4,7 @@ use Rattle.std.proofs.lemmas.Int.{to_z-of_z}
 use Rattle.map_commands.specs.Errors.{code_of}
 use Rattle.map_commands.specs.Places.{prior_fault, place_fault, Number}
 use Rattle.map_commands.proofs.Readings.{reads-fault}
-use Rattle.map_commands.proofs.unread.UnreadWords.number.Goals as goal
+use Rattle.map_commands.proofs.unread.UnreadWords.any_number.Goals as goal
 
 pub returns-in-Err-clause-reads : goal.returns-in-Err-clause-reads
 returns-in-Err-clause-reads c =
