@@ -17,3 +17,4 @@ pub mod Exchanged
 pub mod Taking
 pub mod DrawnEnds
 pub mod Ended
+pub mod Ranges

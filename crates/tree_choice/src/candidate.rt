@@ -46,6 +46,7 @@ impl<'a> Candidate<'a> {
 
     /// The place of a piece by the candidate as partition. Only a piece whose rounded ends don't tell its side is
     /// placed by its exact ends. One that is on the right or on the left goes there whole.
+    #[inline(always)]
     pub fn place_of(&self, piece: &Piece, ends: Ends) -> Place
         requires candidate { IsSighted self.now }
         requires piece { IsPiece self.now.lines.now piece.now }

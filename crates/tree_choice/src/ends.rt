@@ -62,14 +62,16 @@ impl EndedList {
     }
 
     /// Appends a piece with its rounded ends.
-    pub fn push(&mut self, piece: Piece, ends: Ends) -> Result<(), AllocError>
-        ensures pieces { OnOk result (self.new.pieces.items ≡ self.old.pieces.items ++ piece ∷ []) }
+    #[inline]
+    pub fn push(&mut self, piece: &Piece, ends: Ends) -> Result<(), AllocError>
+        ensures pieces { OnOk result
+            (self.new.pieces.items ≡ self.old.pieces.items ++ piece.now ∷ []) }
         ensures firsts { OnOk result
             (self.new.firsts.items ≡ self.old.firsts.items ++ ends.first ∷ []) }
         ensures lasts { OnOk result
             (self.new.lasts.items ≡ self.old.lasts.items ++ ends.last ∷ []) }
     {
-        self.pieces.push(piece)?;
+        self.pieces.push(*piece)?;
         self.firsts.push(ends.first)?;
         self.lasts.push(ends.last)?;
         Ok(())

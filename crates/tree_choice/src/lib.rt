@@ -29,4 +29,4 @@ pub use floors::Floor;
 pub use map_choice::{choose, separates};
 pub use margins::{Margins, Normal};
 pub use straight::StraightLines;
-pub use strips::by_place;
+pub use strips::{by_place, numbers_by_place};

@@ -1,5 +1,6 @@
 //! An order of pieces by their places, in strips.
-ghost use Rattle.std.specs.Prelude.{IfOk};
+ghost use Rattle.std.specs.Prelude.{◌≡◌, ◌<◌, ◌^◌, length, IfOk};
+ghost use Rattle.std.specs.List.{range_with_len};
 ghost use Rattle.std.specs.List.Sorted.{IsPermutation};
 
 use crate::block_boxes::BLOCK;
@@ -66,6 +67,14 @@ impl Strips {
             (strip, u32::MAX - middle.y)
         }
     }
+
+    // The key of a piece, by its line.
+    fn key_of(self, lines: &[Edge], piece: &Piece) -> (u32, u32) {
+        match lines.get(piece.line as usize) {
+            Some(edge) => self.key(Middle::of(*edge)),
+            None => (0, 0),
+        }
+    }
 }
 
 /// The pieces of a list in an order in which neighbours on the map mostly stand together, so that a block of them has a
@@ -76,9 +85,37 @@ pub fn by_place(alloc: Global, lines: &Lines, pieces: &[Piece]) -> Result<Vec<Pi
     let edges = lines.as_slice();
     let strips = Strips::over(edges, pieces);
     let mut ordered = pieces.to_vec(alloc)?;
-    ordered.sort_by_cached_key(|piece| match edges.get(piece.line as usize) {
-        Some(edge) => strips.key(Middle::of(*edge)),
+    ordered.sort_by_cached_key(|piece| strips.key_of(edges, piece))?;
+    Ok(ordered)
+}
+
+// The numbers below this one, in turn.
+fn numbers_below(alloc: Global, count: u32) -> Result<Vec<u32>, AllocError>
+    ensures { IfOk result (λ numbers. numbers.items ≡ range_with_len 0 count) }
+{
+    let mut numbers = Vec::with_capacity(alloc, count as usize)?;
+    for number in 0..count {
+        numbers.push(number)?;
+    }
+    Ok(numbers)
+}
+
+/// The same order as numbers of the list's pieces, which take less memory than the pieces themselves.
+pub fn numbers_by_place(
+    alloc: Global,
+    lines: &Lines,
+    pieces: &[Piece],
+) -> Result<Vec<u32>, AllocError>
+    requires few { length pieces.now < 2 ^ 32 }
+    ensures { IfOk result (λ order.
+        IsPermutation (range_with_len 0 (length pieces.now)) order.items) }
+{
+    let edges = lines.as_slice();
+    let strips = Strips::over(edges, pieces);
+    let mut order = numbers_below(alloc, pieces.len() as u32)?;
+    order.sort_by_cached_key(|number| match pieces.get(*number as usize) {
+        Some(piece) => strips.key_of(edges, piece),
         None => (0, 0),
     })?;
-    Ok(ordered)
+    Ok(order)
 }

@@ -124,6 +124,7 @@ fn lies_right(first: i64, last: i64, direction: i64) -> bool
 }
 
 // The counts of one piece by its exact place. Only a piece across the partition is divided.
+#[inline(never)]
 fn count_exactly(by: &Candidate, piece: &Piece) -> Counts
     requires candidate { IsSighted by.now }
     requires piece { IsPiece by.now.lines.now piece.now }

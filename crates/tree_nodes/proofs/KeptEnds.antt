@@ -105,21 +105,21 @@ one_right lines partition p parts e = ap (λ (x : Parts). option_to_list x.right
 pub one_left : (lines : List Edge) (partition p : Piece) (parts : Parts) → parts ≡ parts_of lines partition p → option_to_list parts.left ≡ left_parts lines partition (p ∷ [])
 one_left lines partition p parts e = ap (λ (x : Parts). option_to_list x.left) e ∙ sym (consed (parts_of lines partition p).left)
 
--- what is listed with the parts of the next piece, and what the pieces behind it will add
-pub gained : (f : Piece → Option Piece) (ps : List Piece) (n : ℕ) (d : Piece) (old new : List Piece) → n < length ps
-    → new ≡ old ++ filter_map f (get_or ps n d ∷ []) → old ++ filter_map f (drop n ps) ≡ filter_map f ps → new
-    ++ filter_map f (drop (n + 1) ps) ≡ filter_map f ps
-gained f ps n d old new h e k =
-    let q = get_or ps n d in
-    let s : drop n ps ≡ q ∷ drop (n + 1) ps = drop-cons ps n d h ∙ ap (λ (i : ℕ). q ∷ drop i ps) (sym (add-one n)) in
-    ap (λ (x : List Piece). x ++ filter_map f (drop (n + 1) ps)) e
-    ∙ append_assoc old (filter_map f (q ∷ [])) (filter_map f (drop (n + 1) ps))
-    ∙ ap (λ (x : List Piece). old ++ x) (front (f q) (drop (n + 1) ps))
-    ∙ ap (λ (x : List Piece). old ++ filter_map f x) (sym s) ∙ k
+-- what is kept so far with what is kept of the next item, and what the items behind it will add
+pub gained : {X Y : Type 0} (f : X → Option Y) (xs : List X) (n : ℕ) (d : X) (old new : List Y) → n < length xs
+    → new ≡ old ++ filter_map f (get_or xs n d ∷ []) → old ++ filter_map f (drop n xs) ≡ filter_map f xs → new
+    ++ filter_map f (drop (n + 1) xs) ≡ filter_map f xs
+gained {X} {Y} f xs n d old new h e k =
+    let q = get_or xs n d in
+    let s : drop n xs ≡ q ∷ drop (n + 1) xs = drop-cons xs n d h ∙ ap (λ (i : ℕ). q ∷ drop i xs) (sym (add-one n)) in
+    ap (λ (x : List Y). x ++ filter_map f (drop (n + 1) xs)) e
+    ∙ append_assoc old (filter_map f (q ∷ [])) (filter_map f (drop (n + 1) xs))
+    ∙ ap (λ (x : List Y). old ++ x) (front (f q) (filter_map f (drop (n + 1) xs)))
+    ∙ ap (λ (x : List X). old ++ filter_map f x) (sym s) ∙ k
   where
-    front : (o : Option Piece) (qs : List Piece) → cons_option o [] ++ filter_map f qs ≡ cons_option o (filter_map f qs)
-    front None qs = refl
-    front (Some x) qs = refl
+    front : (o : Option Y) (ys : List Y) → cons_option o [] ++ ys ≡ cons_option o ys
+    front None ys = refl
+    front (Some y) ys = refl
 
 -- a piece goes to one side whole, and the other one gains nothing
 pub nothing_more : {X E : Type 0} (r : Result X E) (xs : List Piece) → OnOk r (xs ≡ xs ++ [])
@@ -131,7 +131,7 @@ nothing_more (Ok x) xs = same xs
 nothing_more (Err e) xs = tt
 
 -- one more piece is put down with its ends
-ends_more : (lines : List Edge) (list list' : EndedList) (q : Piece) (e : Ends) → IsEnded lines list → e ≡ ends_of lines q
+pub ends_more : (lines : List Edge) (list list' : EndedList) (q : Piece) (e : Ends) → IsEnded lines list → e ≡ ends_of lines q
     → list'.pieces.items ≡ list.pieces.items ++ q ∷ [] → list'.firsts.items ≡ list.firsts.items ++ e.first ∷ []
     → list'.lasts.items ≡ list.lasts.items ++ e.last ∷ [] → IsEnded lines list'
 ends_more lines list list' q e h own p f l =

@@ -18,7 +18,7 @@ pub mod Numbering
 pub mod NodeLemmas
 pub mod Building
 pub mod RangeLemmas
-pub mod Orders
+pub mod OrderLemmas
 pub mod Everywhere
 pub mod OneField
 pub mod OneNumbering

@@ -7,6 +7,7 @@ mod error;
 mod growth;
 mod laws;
 mod open_tree;
+mod orders;
 mod parting;
 mod placed;
 mod segs;

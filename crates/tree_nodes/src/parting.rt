@@ -1,19 +1,24 @@
 //! Divides a list by a partition into the parts on its two sides.
-ghost use Rattle.std.specs.Prelude.{◌≡◌, ◌++◌, ◌∷◌, [], ◌&&◌, false, is_some, option_to_list, IfOk, IfSome, OnOk};
+ghost use Rattle.std.specs.Prelude.{◌≡◌, ◌<◌, ◌^◌, ◌++◌, ◌∷◌, [], ◌&&◌, false, length, is_some, option_to_list, IfOk, IfSome, OnOk};
 ghost use Rattle.tree_pieces.specs.Pieces.{IsPiece, ends_of};
 ghost use Rattle.tree_pieces.specs.Division.{right_parts, left_parts};
 ghost use Rattle.tree_choice.specs.Candidates.{IsSighted, AreEnded};
 ghost use Rattle.tree_choice.specs.Columns.{IsEnded};
+ghost use Rattle.tree_nodes.specs.Placed.{HasNotes};
 
+use crate::orders::{LONG, note_part, notes_of};
 use std::alloc::{AllocError, Global};
 use tree_choice::{Candidate, Choice, EndedList, EndedPieces};
 use tree_pieces::{Ends, Lines, Parts, Piece, Place, divide_in};
 
-/// The parts of a list on the two sides of a partition, in the list's order.
+/// The parts of a list on the two sides of a partition, in the list's order. If many lie on a side, it is noted of each
+/// piece of the list which number its part has there.
 #[derive(Drop)]
 pub(crate) struct Sides {
     pub right: EndedList,
     pub left: EndedList,
+    pub right_notes: Option<Vec<u32>>,
+    pub left_notes: Option<Vec<u32>>,
 }
 
 // Whether both parts of a piece are kept.
@@ -51,12 +56,13 @@ fn put_part(
         None => Ok(()),
         Some(piece) => {
             let own = ends_of_part(lines, &piece, split, ends);
-            list.push(piece, own)
+            list.push(&piece, own)
         }
     }
 }
 
 // Appends the parts of a piece that the partition crosses.
+#[inline(never)]
 fn put_divided(
     by: &Candidate,
     piece: &Piece,
@@ -84,6 +90,7 @@ fn put_divided(
 }
 
 // Appends the parts of a piece. One that lies on one side goes there whole.
+#[inline(always)]
 fn put_parts(
     by: &Candidate,
     piece: &Piece,
@@ -104,14 +111,63 @@ fn put_parts(
     ensures left_ended { OnOk result (IsEnded by.now.lines.now left.new) }
 {
     match by.place_of(piece, ends) {
-        Place::Right => right.push(*piece, ends),
-        Place::Left => left.push(*piece, ends),
+        Place::Right => right.push(piece, ends),
+        Place::Left => left.push(piece, ends),
         Place::Across => put_divided(by, piece, ends, right, left),
     }
 }
 
-/// The parts of a list on the two sides of a partition, with their rounded ends. `choice` tells how many there will be,
-/// so that there is room for them; wrong numbers would only cost time.
+// The same as `part_list`, with notes for each side of which they are of use. The loop that notes nothing stands alone,
+// since most lists are short.
+fn part_noted(
+    alloc: Global,
+    lines: &Lines,
+    partition: &Piece,
+    choice: Choice,
+    list: &EndedPieces,
+) -> Result<Sides, AllocError>
+    requires partition { IsPiece lines.now partition.now }
+    requires list { AreEnded lines.now list.now }
+    requires few { length list.now.pieces.now < 2 ^ 31 }
+    ensures right { IfOk result (λ sides. sides.right.pieces.items
+        ≡ right_parts lines.now partition.now list.now.pieces.now) }
+    ensures left { IfOk result (λ sides. sides.left.pieces.items
+        ≡ left_parts lines.now partition.now list.now.pieces.now) }
+    ensures right_ended { IfOk result (λ sides. IsEnded lines.now sides.right) }
+    ensures left_ended { IfOk result (λ sides. IsEnded lines.now sides.left) }
+    ensures right_notes { IfOk result (λ sides. IfSome sides.right_notes
+        (HasNotes (length list.now.pieces.now) (length sides.right.pieces.items))) }
+    ensures left_notes { IfOk result (λ sides. IfSome sides.left_notes
+        (HasNotes (length list.now.pieces.now) (length sides.left.pieces.items))) }
+{
+    let by = Candidate::of(lines, partition);
+    let pieces = list.pieces;
+    let mut right = EndedList::with_room(alloc, choice.right as usize)?;
+    let mut left = EndedList::with_room(alloc, choice.left as usize)?;
+    let mut right_notes = notes_of(alloc, pieces.len(), choice.right)?;
+    let mut left_notes = notes_of(alloc, pieces.len(), choice.left)?;
+    for (n, piece) in pieces.iter().enumerate() {
+        let ends = Ends {
+            first: list.firsts[n],
+            last: list.lasts[n],
+        };
+        let rights = right.pieces.len();
+        let lefts = left.pieces.len();
+        put_parts(&by, piece, ends, &mut right, &mut left)?;
+        note_part(&mut right_notes, rights, right.pieces.len())?;
+        note_part(&mut left_notes, lefts, left.pieces.len())?;
+    }
+    Ok(Sides {
+        right,
+        left,
+        right_notes,
+        left_notes,
+    })
+}
+
+/// The parts of a list on the two sides of a partition, with their rounded ends, and with notes for a side of which the
+/// parts are to have an order by places. `choice` tells how many there will be, so that there is room for them; wrong
+/// numbers would only cost time.
 pub(crate) fn part_list(
     alloc: Global,
     lines: &Lines,
@@ -121,13 +177,21 @@ pub(crate) fn part_list(
 ) -> Result<Sides, AllocError>
     requires partition { IsPiece lines.now partition.now }
     requires list { AreEnded lines.now list.now }
+    requires few { length list.now.pieces.now < 2 ^ 31 }
     ensures right { IfOk result (λ sides. sides.right.pieces.items
         ≡ right_parts lines.now partition.now list.now.pieces.now) }
     ensures left { IfOk result (λ sides. sides.left.pieces.items
         ≡ left_parts lines.now partition.now list.now.pieces.now) }
     ensures right_ended { IfOk result (λ sides. IsEnded lines.now sides.right) }
     ensures left_ended { IfOk result (λ sides. IsEnded lines.now sides.left) }
+    ensures right_notes { IfOk result (λ sides. IfSome sides.right_notes
+        (HasNotes (length list.now.pieces.now) (length sides.right.pieces.items))) }
+    ensures left_notes { IfOk result (λ sides. IfSome sides.left_notes
+        (HasNotes (length list.now.pieces.now) (length sides.left.pieces.items))) }
 {
+    if choice.right.max(choice.left) as usize > LONG {
+        return part_noted(alloc, lines, partition, choice, list);
+    }
     let by = Candidate::of(lines, partition);
     let firsts = list.firsts;
     let lasts = list.lasts;
@@ -140,5 +204,10 @@ pub(crate) fn part_list(
         };
         put_parts(&by, piece, ends, &mut right, &mut left)?;
     }
-    Ok(Sides { right, left })
+    Ok(Sides {
+        right,
+        left,
+        right_notes: None,
+        left_notes: None,
+    })
 }

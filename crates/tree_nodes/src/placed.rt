@@ -1,4 +1,4 @@
-//! A list of pieces with their rounded ends, and the same pieces in an order by their places on the map.
+//! A list of pieces with their rounded ends, and an order of them by their places on the map.
 ghost use Rattle.std.specs.Prelude.{◌≡◌, All, IfOk};
 ghost use Rattle.tree_pieces.specs.Pieces.{IsPiece};
 ghost use Rattle.tree_nodes.specs.Placed.{IsPlacedList};
@@ -8,14 +8,15 @@ use std::alloc::{AllocError, Global};
 use tree_choice::{EndedList, Floor};
 use tree_pieces::{Lines, Piece};
 
-/// A list of pieces with their rounded ends beside them. A long list also has the same pieces in an order by places. A
-/// list that is most of the one above has what is known of its pieces' costs; the others have no floors.
+/// A list of pieces with their rounded ends beside them. A long list may also have the numbers of its pieces in an
+/// order by places. A list that is most of the one above has what is known of its pieces' costs; the others have no
+/// floors.
 #[derive(Drop)]
 pub(crate) struct PlacedPieces {
     pub pieces: Vec<Piece>,
     pub firsts: Vec<Vertex>,
     pub lasts: Vec<Vertex>,
-    pub placed: Option<EndedList>,
+    pub order: Option<Vec<u32>>,
     pub floors: Vec<Floor>,
 }
 
@@ -37,14 +38,14 @@ impl PlacedPieces {
     /// A list with this order, and with what is known of its pieces.
     pub(crate) fn with_order(
         list: EndedList,
-        placed: Option<EndedList>,
+        order: Option<Vec<u32>>,
         floors: Vec<Floor>,
     ) -> PlacedPieces
         ensures { result ≡ record {
           pieces = list.pieces;
           firsts = list.firsts;
           lasts = list.lasts;
-          placed = placed;
+          order = order;
           floors = floors;
         } }
     {
@@ -57,7 +58,7 @@ impl PlacedPieces {
             pieces,
             firsts,
             lasts,
-            placed,
+            order,
             floors,
         }
     }

@@ -1,21 +1,25 @@
 //! One step of the division: a leaf, or a partition and two lists. All ways to choose give the same partition; they
 //! differ in time alone.
 ghost use Rattle.std.specs.Prelude.{◌≡◌, ◌<◌, ◌≤◌, ◌^◌, length, vec_len, All, IfOk, IfSome};
+ghost use Rattle.std.specs.List.{range_with_len};
+ghost use Rattle.std.specs.List.Sorted.{IsPermutation};
 ghost use Rattle.tree_pieces.specs.Pieces.{IsPiece};
 ghost use Rattle.tree_pieces.specs.Division.{right_parts, left_parts};
 ghost use Rattle.tree_choice.specs.Candidates.{AreEnded};
 ghost use Rattle.tree_choice.specs.Choices.{IsChosen};
+ghost use Rattle.tree_choice.specs.Columns.{IsEnded};
 ghost use Rattle.tree_choice.specs.Floors.{AreKnown};
-ghost use Rattle.tree_nodes.specs.Placed.{IsPlaced, IsPlacedList};
+ghost use Rattle.tree_nodes.specs.Placed.{IsPlaced, IsPlacedList, HasNotes};
 ghost use Rattle.tree_nodes.specs.Growth.{IsListStep, HasPlacedLists};
 
+use crate::orders::{LONG, gathered, order_of, parted_order};
 use crate::parting::{Sides, part_list};
 use crate::placed::PlacedPieces;
 use lump_records::Bounds;
 use std::alloc::{AllocError, Global};
 use tree_choice::{
-    Choice, EndedList, EndedPieces, Floor, StraightLines, blocks_of, by_place, choose_above,
-    choose_in_boxes, floors_of_part,
+    Choice, EndedList, EndedPieces, Floor, StraightLines, blocks_of, choose_above, choose_in_boxes,
+    floors_of_part,
 };
 use tree_pieces::{Lines, Piece};
 
@@ -30,9 +34,6 @@ const EVERYWHERE: Bounds = Bounds {
     right: i16::MAX,
 };
 
-// Longer lists than this have an order by places, and remember what their pieces cost.
-const LONG: usize = 256;
-
 /// What a list of pieces becomes: a leaf, or a partition and the two lists of the parts.
 #[derive(Drop)]
 pub(crate) enum Step {
@@ -44,80 +45,11 @@ pub(crate) enum Step {
     },
 }
 
-/// The orders by places of the parts on the two sides of a partition, if they are long enough to have one.
-#[derive(Drop)]
-struct Orders {
-    right: Option<EndedList>,
-    left: Option<EndedList>,
-}
-
 /// The parts of a list on the two sides of a partition, with their orders by places if they have one.
 #[derive(Drop)]
 struct PlacedSides {
     right: PlacedPieces,
     left: PlacedPieces,
-}
-
-// The order by places of a long list: the one that it has already, or else a new one.
-fn order_of(
-    alloc: Global,
-    lines: &Lines,
-    list: &[Piece],
-    placed: Option<EndedList>,
-) -> Result<Option<EndedList>, AllocError>
-    requires pieces { All (IsPiece lines.now) list.now }
-    requires placed { IfSome placed (IsPlaced lines.now list.now) }
-    ensures { IfOk result (λ order. IfSome order (IsPlaced lines.now list.now)) }
-{
-    if list.len() <= LONG {
-        return Ok(None);
-    }
-    match placed {
-        Some(order) => Ok(Some(order)),
-        None => {
-            let ordered = by_place(alloc, lines, list)?;
-            let order = EndedList::of(alloc, lines, ordered)?;
-            Ok(Some(order))
-        }
-    }
-}
-
-// The orders by places of the parts. They are divided from the list's order, which is quicker than sorting them.
-// `choice` tells how many parts there are; if they are few on both sides, they get no order.
-fn parted_order(
-    alloc: Global,
-    lines: &Lines,
-    partition: &Piece,
-    choice: Choice,
-    list: &[Piece],
-    placed: Option<EndedList>,
-) -> Result<Orders, AllocError>
-    requires partition { IsPiece lines.now partition.now }
-    requires pieces { All (IsPiece lines.now) list.now }
-    requires placed { IfSome placed (IsPlaced lines.now list.now) }
-    ensures right { IfOk result (λ orders. IfSome orders.right
-        (IsPlaced lines.now (right_parts lines.now partition.now list.now))) }
-    ensures left { IfOk result (λ orders. IfSome orders.left
-        (IsPlaced lines.now (left_parts lines.now partition.now list.now))) }
-{
-    let none = Orders {
-        right: None,
-        left: None,
-    };
-    if choice.right.max(choice.left) as usize <= LONG {
-        return Ok(none);
-    }
-    match placed {
-        None => Ok(none),
-        Some(order) => {
-            let slices = order.as_slices();
-            let Sides { right, left } = part_list(alloc, lines, partition, choice, &slices)?;
-            Ok(Orders {
-                right: Some(right),
-                left: Some(left),
-            })
-        }
-    }
 }
 
 // What is known of the pieces of a part. Only a part that is most of a list has floors: in another one too much has
@@ -139,21 +71,50 @@ fn floors_in(
     floors_of_part(alloc, lines, list, floors, part)
 }
 
-// The parts of a list on the two sides of a partition, with their orders. The order is divided first: once
-// its parts stand, its own memory is free for those of the list.
+// The parts on one side of a partition as a list, with what is known of them and with the order by places that their
+// notes give.
+fn placed_part(
+    alloc: Global,
+    lines: &Lines,
+    list: &[Piece],
+    order: &Option<Vec<u32>>,
+    floors: &[Floor],
+    part: EndedList,
+    notes: Option<Vec<u32>>,
+) -> Result<PlacedPieces, AllocError>
+    requires order { IfSome order.now (IsPlaced list.now) }
+    requires floors { AreKnown lines.now list.now floors.now }
+    requires part { All (IsPiece lines.now) part.pieces.items }
+    requires ended { IsEnded lines.now part }
+    requires notes { IfSome notes (HasNotes (length list.now) (vec_len part.pieces)) }
+    ensures pieces { IfOk result (λ own. own.pieces.items ≡ part.pieces.items) }
+    ensures listed { IfOk result (IsPlacedList lines.now) }
+{
+    let known = floors_in(alloc, lines, list, floors, &part.pieces)?;
+    match (order, notes) {
+        (Some(order), Some(notes)) => {
+            let own = parted_order(alloc, order, &notes, part.pieces.len())?;
+            Ok(PlacedPieces::with_order(part, Some(own), known))
+        }
+        _ => Ok(PlacedPieces::with_order(part, None, known)),
+    }
+}
+
+// The parts of a list on the two sides of a partition, with their orders.
 fn part_placed(
     alloc: Global,
     lines: &Lines,
     partition: &Piece,
     choice: Choice,
     list: &EndedPieces,
-    placed: Option<EndedList>,
+    order: &Option<Vec<u32>>,
     floors: &[Floor],
 ) -> Result<PlacedSides, AllocError>
     requires partition { IsPiece lines.now partition.now }
     requires list { AreEnded lines.now list.now }
+    requires few { length list.now.pieces.now < 2 ^ 31 }
     requires floors { AreKnown lines.now list.now.pieces.now floors.now }
-    requires placed { IfSome placed (IsPlaced lines.now list.now.pieces.now) }
+    requires order { IfSome order.now (IsPlaced list.now.pieces.now) }
     ensures right { IfOk result (λ sides. sides.right.pieces.items
         ≡ right_parts lines.now partition.now list.now.pieces.now) }
     ensures left { IfOk result (λ sides. sides.left.pieces.items
@@ -163,36 +124,40 @@ fn part_placed(
 {
     lines.are_drawn();
     let pieces = list.pieces;
-    let orders = parted_order(alloc, lines, partition, choice, pieces, placed)?;
-    let Sides { right, left } = part_list(alloc, lines, partition, choice, list)?;
-    let right_floors = floors_in(alloc, lines, pieces, floors, &right.pieces)?;
-    let left_floors = floors_in(alloc, lines, pieces, floors, &left.pieces)?;
-    Ok(PlacedSides {
-        right: PlacedPieces::with_order(right, orders.right, right_floors),
-        left: PlacedPieces::with_order(left, orders.left, left_floors),
-    })
+    let Sides {
+        right,
+        left,
+        right_notes,
+        left_notes,
+    } = part_list(alloc, lines, partition, choice, list)?;
+    let right = placed_part(alloc, lines, pieces, order, floors, right, right_notes)?;
+    let left = placed_part(alloc, lines, pieces, order, floors, left, left_notes)?;
+    Ok(PlacedSides { right, left })
 }
 
-// The best candidate of a list that has an order by places, in that order.
+// The best candidate of a list that has an order by places, in that order. The pieces are gathered in it for the choice
+// alone, so that they take no memory while the list is divided.
 fn choice_by_place(
     alloc: Global,
     lines: &Lines,
-    list: &[Piece],
-    order: &EndedList,
+    list: &EndedPieces,
+    order: &[u32],
     used: &[bool],
     straight: &mut StraightLines,
     floors: &mut [Floor],
 ) -> Result<Option<Choice>, AllocError>
-    requires order { IsPlaced lines.now list.now order.now }
+    requires list { AreEnded lines.now list.now }
+    requires order { IsPermutation (range_with_len 0 (length list.now.pieces.now)) order.now }
     requires known { length used.now ≡ length lines.now }
-    requires few { length list.now < 2 ^ 31 }
-    requires floors { AreKnown lines.now list.now floors.old }
-    ensures choice { IfOk result (IsChosen lines.now list.now used.now) }
-    ensures floors { AreKnown lines.now list.now floors.new }
+    requires few { length list.now.pieces.now < 2 ^ 31 }
+    requires floors { AreKnown lines.now list.now.pieces.now floors.old }
+    ensures choice { IfOk result (IsChosen lines.now list.now.pieces.now used.now) }
+    ensures floors { AreKnown lines.now list.now.pieces.now floors.new }
 {
-    let slices = order.as_slices();
+    let placed = gathered(alloc, list, order)?;
+    let slices = placed.as_slices();
     let blocks = blocks_of(alloc, lines, &slices)?;
-    Ok(choose_above(lines, list, &slices, &blocks, used, straight, floors))
+    Ok(choose_above(lines, list.pieces, &slices, &blocks, used, straight, floors))
 }
 
 // The best candidate of a list of one block. The choice tests such pieces one by one and never reads the block's box.
@@ -217,13 +182,13 @@ fn choice_of(
     alloc: Global,
     lines: &Lines,
     list: &EndedPieces,
-    placed: &Option<EndedList>,
+    order: &Option<Vec<u32>>,
     used: &[bool],
     straight: &mut StraightLines,
     floors: &mut [Floor],
 ) -> Result<Option<Choice>, AllocError>
     requires list { AreEnded lines.now list.now }
-    requires placed { IfSome placed.now (IsPlaced lines.now list.now.pieces.now) }
+    requires order { IfSome order.now (IsPlaced list.now.pieces.now) }
     requires known { length used.now ≡ length lines.now }
     requires few { length list.now.pieces.now < 2 ^ 31 }
     requires floors { AreKnown lines.now list.now.pieces.now floors.old }
@@ -231,8 +196,8 @@ fn choice_of(
     ensures floors { AreKnown lines.now list.now.pieces.now floors.new }
 {
     let pieces = list.pieces;
-    match placed {
-        Some(order) => choice_by_place(alloc, lines, pieces, order, used, straight, floors),
+    match order {
+        Some(order) => choice_by_place(alloc, lines, list, order, used, straight, floors),
         None => {
             if 0 < pieces.len() && pieces.len() <= FEW {
                 return Ok(choice_of_few(lines, list, used, straight));
@@ -261,7 +226,7 @@ pub(crate) fn step_in(
         pieces,
         firsts,
         lasts,
-        placed,
+        order,
         mut floors,
     } = list;
     let slices = EndedPieces {
@@ -269,14 +234,14 @@ pub(crate) fn step_in(
         firsts: &firsts,
         lasts: &lasts,
     };
-    let order = order_of(alloc, lines, &pieces, placed)?;
+    let order = order_of(alloc, lines, &pieces, order)?;
     let choice = match choice_of(alloc, lines, &slices, &order, used, straight, &mut floors)? {
         None => return Ok(Step::Leaf(pieces)),
         Some(choice) => choice,
     };
     let partition = pieces[choice.at as usize];
     let PlacedSides { right, left } = part_placed(
-        alloc, lines, &partition, choice, &slices, order, &floors,
+        alloc, lines, &partition, choice, &slices, &order, &floors,
     )?;
     Ok(Step::Parts {
         partition,
