@@ -61,6 +61,7 @@ pub fn can_do(map: &Map, command: &Command) -> Result<(), MapError>
 }
 
 /// How many items a command adds to each table.
+#[inline(always)]
 pub fn need_of(command: &Command) -> Need
     ensures { result ≡ need_of command.now }
 {

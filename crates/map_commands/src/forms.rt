@@ -24,8 +24,8 @@ use map_tables::{Edit, Item};
 pub const GREATEST_LIGHT: i16 = 255;
 // In degrees.
 const GREATEST_ANGLE: i16 = 359;
-// The greatest value of the flags, special and tag of a line.
-const GREATEST_FLAGS: u16 = 32767;
+/// The greatest value of the flags, special and tag of a line.
+pub const GREATEST_FLAGS: u16 = 32767;
 
 impl<'a> UnreadWords<'a> {
     /// Reads a place.

@@ -83,24 +83,6 @@ pub const DEEDS: &[(&[u8], Deed)] = &[
     (b"split", Deed::Draws),
 ];
 
-// All first words.
-const HEADS: [Head; 14] = [
-    Head::Name,
-    Head::Vertex,
-    Head::Sector,
-    Head::Side,
-    Head::Line,
-    Head::Thing,
-    Head::MoveVertex,
-    Head::SetSector,
-    Head::SetSide,
-    Head::SetLine,
-    Head::SetThing,
-    Head::Drop,
-    Head::Room,
-    Head::Split,
-];
-
 /// The spelling of a first word.
 pub fn head_text(head: Head) -> &'static str
     ensures { result.now ≡ head_word head }

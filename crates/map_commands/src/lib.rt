@@ -2,6 +2,7 @@
 //! project. The modules beside this file deal with the commands of the current map, `project` deals with all commands.
 #![tactic(auto)]
 
+mod additions;
 mod command;
 mod deed;
 mod edits;
@@ -31,8 +32,8 @@ pub use kinds::{LAST_ITEM, LAST_SECTOR, kind_in, last_number};
 pub use layout::Layout;
 pub use need::growth_of;
 pub use project::{
-    ProjectCommand, Ready, accept_each_spelling, apply, commit, end_in_one_way, have_a_form_each,
-    lead_to_one_project, need_of, parse, print, ready, spell_one_command,
+    ProjectCommand, Ready, accept_each_spelling, add_by, apply, commit, end_in_one_way,
+    have_a_form_each, lead_to_one_project, need_of, parse, print, ready, spell_one_command,
 };
 pub use unread::UnreadWords;
 pub use words::{next_part, number_in};

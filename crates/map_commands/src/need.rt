@@ -16,6 +16,7 @@ pub const NO_NEED: Need = Need {
 };
 
 /// One item, in its table.
+#[inline(always)]
 pub fn one_of(item: &Item) -> Need
     ensures { result ≡ one_of (kind_of_item item.now) }
 {
@@ -44,6 +45,7 @@ pub fn one_of(item: &Item) -> Need
 }
 
 /// By how many bytes these items lengthen a body.
+#[inline(always)]
 pub fn growth_of(need: Need) -> u64
     ensures { result ≡ growth_of need }
 {

@@ -8,6 +8,7 @@ mod grammar;
 mod laws;
 mod spelling;
 
+pub use adding::add_by;
 pub use changes::{apply, commit, ready};
 pub use command::{ProjectCommand, Ready};
 pub use decision::need_of;

@@ -2,7 +2,7 @@
 use crate::error::CommandError;
 use crate::kinds::LAST_ITEM;
 use crate::names::{FIRST_MAP, NO_TEXTURE, marker_in, name_in};
-use crate::words::{next_part, number_in, short_number};
+use crate::words::{next_part, number_before, number_in};
 use lump_records::{NO_SIDE, Name8};
 
 /// The words of a line that are still to be read, and the fault so far: `NotACommand` if that was found anywhere,
@@ -83,12 +83,9 @@ impl<'a> UnreadWords<'a> {
             (Number low high) (signed_decimal n)) }
         ensures range { IfSome result (IsBetween low high) }
     {
-        let (n, behind) = short_number(self.rest?)?;
-        if n < i32::from(low) || i32::from(high) < n {
-            return None;
-        }
+        let (n, behind) = number_before(self.rest?, low, high)?;
         self.rest = behind;
-        Some(n as i16)
+        Some(n)
     }
 
     // Reads the next word as a number between two bounds. After a fault it returns some number between them.

@@ -123,18 +123,19 @@ pub fn number_in(word: &[u8], low: i16, high: i16) -> Result<i16, CommandError>
     }
 }
 
-// The number of at most four digits in front of a text, and what stands behind the space after it, if there is one. The
+// The number of at most five digits in front of a text, and what stands behind the space after it, if there is one. The
 // loop has a fixed end, so that the compiler unrolls it.
+#[inline(always)]
 fn short_natural(text: &[u8]) -> Option<(u32, Option<&[u8]>)>
     ensures word { IfSome result
         (λ found. parts text.now ≡ decimal found.0 ∷ parts_behind (option_copied found.1)) }
-    ensures small { IfSome result (λ found. found.0 ≤ 9999) }
+    ensures small { IfSome result (λ found. found.0 ≤ 99999) }
 {
     if text.is_empty() || !is_digit(text[0]) {
         return None;
     }
     let mut value = u32::from(text[0] - b'0');
-    for len in 1..5 {
+    for len in 1..6 {
         if text.len() <= len {
             return Some((value, None));
         }
@@ -150,12 +151,13 @@ fn short_natural(text: &[u8]) -> Option<(u32, Option<&[u8]>)>
     None
 }
 
-/// The number in front of a text, and what stands behind the space after it, if there is one: only a number of at most
-/// four digits, as most are.
-pub fn short_number(text: &[u8]) -> Option<(i32, Option<&[u8]>)>
+// The number in front of a text, and what stands behind the space after it, if there is one: only a number of at most
+// five digits, as nearly all are.
+#[inline(always)]
+fn short_number(text: &[u8]) -> Option<(i32, Option<&[u8]>)>
     ensures word { IfSome result
         (λ found. parts text.now ≡ signed_decimal found.0 ∷ parts_behind (option_copied found.1)) }
-    ensures small { IfSome result (λ found. IsBetween (negsuc 9998) (pos 9999) found.0) }
+    ensures small { IfSome result (λ found. IsBetween (negsuc 99998) (pos 99999) found.0) }
 {
     match text {
         [b'-', digits @ ..] => {
@@ -170,4 +172,19 @@ pub fn short_number(text: &[u8]) -> Option<(i32, Option<&[u8]>)>
             Some((n as i32, behind))
         }
     }
+}
+
+/// The number between two bounds in front of a text, and what stands behind the space after it, if there is one: only a
+/// number of at most five digits, as nearly all are.
+#[inline(always)]
+pub fn number_before(text: &[u8], low: i16, high: i16) -> Option<(i16, Option<&[u8]>)>
+    ensures word { IfSome result
+        (λ found. parts text.now ≡ signed_decimal found.0 ∷ parts_behind (option_copied found.1)) }
+    ensures range { IfSome result (λ found. IsBetween low high found.0) }
+{
+    let (n, behind) = short_number(text)?;
+    if n < i32::from(low) || i32::from(high) < n {
+        return None;
+    }
+    Some((n as i16, behind))
 }

@@ -19,7 +19,7 @@ use crate::ProjectError;
 use crate::geometry::Geometry;
 use crate::header::{header, read_header};
 use crate::places::{Parts, Places};
-use map_commands::{CommandError, apply, parse};
+use map_commands::{CommandError, add_by, apply, parse};
 use map_tables::{MapError, Maps};
 use std::alloc::{AllocError, Global};
 use store_disk::{Area, Disk};
@@ -45,6 +45,9 @@ fn advance(maps: &mut Maps, line: &[u8], cap: u32) -> Result<bool, AllocError>
         → ¬ LeadsTo cap (project_of maps.old) line.now new }
     ensures fits { body_len (project_of maps.new) ≤ cap }
 {
+    if add_by(maps, line, cap) {
+        return Ok(true);
+    }
     let Ok(command) = parse(line) else {
         return Ok(false);
     };

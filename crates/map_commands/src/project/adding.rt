@@ -1,12 +1,14 @@
 //! An addition that is tried at once, without a decision first.
-ghost use Rattle.std.specs.Prelude.{◌≡◌, ◌≤◌, [], Ok, IfNone, IfSome, IsErrOf, IsOk};
+ghost use Rattle.std.specs.Prelude.{◌≡◌, ◌≤◌, [], false, true, Ok, IfNone, IfSome, IsErrOf, IsOk};
 ghost use Rattle.map_tables.specs.Outcomes.{Covers, EndsEdit, least, unless};
 ghost use Rattle.map_tables.specs.Projects.{body_len, project_of};
 ghost use Rattle.map_commands.specs.Step.{InRange, need_of, after, faults, number_of};
 ghost use Rattle.map_commands.specs.ProjectCommands.{InProjectRange};
+ghost use Rattle.map_commands.specs.ProjectLines.{LeadsTo};
 ghost use Rattle.map_commands.specs.ProjectReadiness.{project_need_of};
 ghost use Rattle.map_commands.specs.ProjectStep.{naming_faults, step};
 
+use crate::additions::added_by;
 use crate::command::Command;
 use crate::project::command::ProjectCommand;
 use crate::project::decision::is_full;
@@ -32,6 +34,7 @@ fn add_item(maps: &mut Maps, command: &Command) -> Option<Result<u32, MapError>>
 
 /// Adds the item of a command that adds exactly one, and answers its number. None if the command is another one, if the
 /// new body would be too long, or if the map refuses the item: then the project stays.
+#[inline(always)]
 pub fn try_add(maps: &mut Maps, command: &ProjectCommand, cap: u32) -> Option<u32>
     requires range { InProjectRange command.now }
     requires fits { body_len (project_of maps.old) ≤ cap }
@@ -53,5 +56,25 @@ pub fn try_add(maps: &mut Maps, command: &ProjectCommand, cap: u32) -> Option<u3
     match add_item(maps, edit) {
         Some(Ok(number)) => Some(number),
         Some(Err(_)) | None => None,
+    }
+}
+
+/// Adds the item of a line that adds a vertex, a side or a line, as most lines of a journal do. False if the line is
+/// another one, or isn't accepted, or has a number of more than five digits: then the project stays, and `parse` and
+/// `apply` say what becomes of the line.
+pub fn add_by(maps: &mut Maps, line: &[u8], cap: u32) -> bool
+    requires fits { body_len (project_of maps.old) ≤ cap }
+    ensures led { result ≡ true
+        → LeadsTo cap (project_of maps.old) line.now (project_of maps.new) }
+    ensures stays { result ≡ false → project_of maps.new ≡ project_of maps.old }
+    ensures fits { body_len (project_of maps.new) ≤ cap }
+{
+    let Some(item) = added_by(line) else {
+        return false;
+    };
+    let command = ProjectCommand::Current(Command::Edit(Edit::Add(item)));
+    match try_add(maps, &command, cap) {
+        Some(_) => true,
+        None => false,
     }
 }

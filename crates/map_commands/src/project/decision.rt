@@ -72,6 +72,7 @@ fn has_map(maps: &Maps, name: Name8) -> bool
 }
 
 // By how many bytes a command lengthens a body at most.
+#[inline(always)]
 fn growth_of(maps: &Maps, command: &ProjectCommand) -> u64
     ensures { result ≡ project_growth_of (project_of maps.now) command.now }
 {
@@ -83,6 +84,7 @@ fn growth_of(maps: &Maps, command: &ProjectCommand) -> u64
 }
 
 /// Whether the new body would be longer than `cap` bytes, if nothing else refuses the command.
+#[inline(always)]
 pub fn is_full(maps: &Maps, command: &ProjectCommand, cap: u32) -> bool
     ensures { let p = project_of maps.now in result
         ≡ nat_lt cap (body_len p + project_growth_of p command.now) }
