@@ -13,7 +13,7 @@ use Rattle.wad_file.specs.Directory.{entry_has_name, entry_text, lump_count}
 use Rattle.wad_file.specs.Fields.{same_bytes}
 use Rattle.wad_file.specs.Lumps.{Lump, lump_at, lumps_between}
 use Rattle.wad_levels.specs.Entries.{IsLevelAt, comes_later, goes_on, is_gl, is_gl_marker, is_gl_name, is_level, rank}
-use Rattle.wad_levels.specs.Levels.{lump_names, marker}
+use Rattle.wad_levels.specs.Levels.{lump_names}
 use Rattle.wad_levels.specs.declared.entries.LevelEntries.{LevelEntries}
 use Rattle.wad_build.specs.Wad.{is_lump_name, with_names}
 use Rattle.wad_rebuild.specs.Rebuilt.{AreRebuilt, lumps_after, lumps_from, made_lumps, ten_bytes, ten_lumps}

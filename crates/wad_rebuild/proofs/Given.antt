@@ -1,6 +1,6 @@
 -- From a WAD in memory, which may stand for one in a file, to what becomes of the latter.
-use Rattle.std.proofs.Common.{◌≡◌, ◌∙◌, refl, sym, ap, subst, ℕ, ◌+◌, ◌-◌, inr, List, [], ◌∷◌, ◌++◌, length, take, map, arith, Option, None, Some}
-use Rattle.wad_file.specs.Lumps.{IsWadOf, Lump, long, wad_of, wad_size}
+use Rattle.std.proofs.Common.{◌≡◌, ◌∙◌, refl, sym, ap, subst, ℕ, inr, List, [], ◌∷◌, ◌++◌, length, take, map, arith, Option, None, Some}
+use Rattle.wad_file.specs.Lumps.{IsWadOf, Lump, wad_of, wad_size}
 use Rattle.wad_file.specs.Placed.{AreContents, IsListWritten, Placed, lumps_over, placed_size}
 use Rattle.wad_file.proofs.PlacedLemmas.{contents_over}
 use Rattle.wad_rebuild.specs.Held.{IsGiven, IsWholeOf, at_hand, kept_lumps, placed_lumps}

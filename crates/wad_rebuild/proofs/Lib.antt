@@ -2,6 +2,7 @@ pub mod MadeLemmas
 pub mod AddLemmas
 pub mod PartLemmas
 pub mod WholeLemmas
+pub mod InTurn
 pub mod Contents
 pub mod Padded
 pub mod AlikeLevels

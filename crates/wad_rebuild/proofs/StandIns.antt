@@ -30,7 +30,7 @@ use Rattle.wad_rebuild.specs.Made.{reject_of}
 use Rattle.wad_rebuild.specs.Parts.{HasLumps}
 use Rattle.wad_rebuild.specs.Rebuilt.{AreRebuilt, has_level, is_crowded, lumps_refusal, sizes_below, whole_refusal}
 use Rattle.wad_rebuild.specs.Whole.{IsAcceptedWith}
-use Rattle.wad_rebuild.specs.declared.error.RebuildError.TheVariants.{TooLong, NotAWad, DirectoryOutside, NoSuchLevel, LumpOutside}
+use Rattle.wad_rebuild.specs.declared.error.RebuildError.TheVariants.{TooLong, NoSuchLevel, LumpOutside}
 use Rattle.wad_rebuild.specs.declared.levels.Fate.{Fate}
 use Rattle.wad_rebuild.specs.declared.levels.Fate.TheVariants.{NotAsked, Made, Left}
 use Rattle.wad_rebuild.specs.declared.levels.RebuiltLevel.{RebuiltLevel}

@@ -1,10 +1,8 @@
 -- What refuses a WAD, and what it has after its levels are built anew.
-use Rattle.std.proofs.Common.{◌≡◌, ◌∙◌, refl, sym, ap, subst, ℕ, zero, suc, ◌+◌, ◌<◌, ◌≤◌, Bool, true, false, ◌&&◌, List, [], ◌∷◌, ◌++◌, length, get_or, take, drop, map, arith, Option, None}
+use Rattle.std.proofs.Common.{◌≡◌, ◌∙◌, refl, sym, ap, subst, ℕ, zero, suc, ◌<◌, ◌≤◌, Bool, true, false, ◌&&◌, List, [], ◌∷◌, ◌++◌, length, get_or, drop, map, arith, Option, None}
 use Rattle.std.specs.Prelude.{All}
 use Rattle.std.specs.List.{list_all, list_any}
-use Rattle.std.proofs.Math.Seq.{take-suc}
-use Rattle.std.proofs.lemmas.List.{map-append, take_all}
-use Rattle.std.proofs.lemmas.List.Elements.{All-nil, All-cons, All-head, All-push, All-tail}
+use Rattle.std.proofs.lemmas.List.Elements.{All-nil, All-cons, All-head, All-tail}
 use Rattle.wad_file.specs.Directory.{entry_text, wad_refusal}
 use Rattle.wad_file.specs.Fields.{same_bytes}
 use Rattle.wad_file.specs.Placed.{Placed, placed_size}
@@ -12,7 +10,7 @@ use Rattle.wad_file.proofs.NameLemmas.{any_map}
 use Rattle.wad_levels.specs.Called.{is_asked_of, is_level_asked, last_of_each}
 use Rattle.wad_levels.specs.Entries.{AreLevels, IsLevelAt, level_name}
 use Rattle.wad_levels.specs.declared.entries.LevelEntries.{LevelEntries}
-use Rattle.wad_rebuild.specs.Rebuilt.{AreRebuilt, IsFate, IsRebuilt, has_level, lumps_refusal, size_limit, whole_refusal}
+use Rattle.wad_rebuild.specs.Rebuilt.{IsFate, IsRebuilt, has_level, lumps_refusal, size_limit, whole_refusal}
 use Rattle.wad_rebuild.specs.Held.{placed_lumps}
 use Rattle.wad_rebuild.specs.Parts.{AddsPlaced, RefusesPut}
 use Rattle.wad_rebuild.specs.Whole.{IsListOf, RefusesBytes}
@@ -69,7 +67,7 @@ level_of_name wad name levels a =
 pub of_wad : (wad : List ℕ) (names : List (List ℕ)) → wad_refusal wad ≡ None → whole_refusal wad names ≡ lumps_refusal wad names
 of_wad wad names w = rw w refl
 
--- ---- the levels so far, each with what becomes of it
+-- ---- a level with what becomes of it
 pub is_rebuilt :
     (wad : List ℕ) (levels last : List LevelEntries) (names : List (List ℕ)) (x : RebuiltLevel) (l : LevelEntries) (asked : Bool) → x.entries ≡ l
     → x.name ≡ level_name wad l → IsFate wad asked l x.fate → asked ≡ is_asked_of names last l → last ≡ last_of_each wad levels names → IsRebuilt wad levels names x
@@ -80,34 +78,6 @@ is_rebuilt wad levels last names x l asked e n f a o =
       fate_is =
           subst (λ (k : LevelEntries). IsFate wad (is_level_asked wad levels names k) k x.fate) (sym e)
           (subst (λ (b : Bool). IsFate wad b l x.fate) same f);
-    }
-
-abbrev pub AreSoFar : List ℕ → List (List ℕ) → List LevelEntries → ℕ → List RebuiltLevel → Type 0
-AreSoFar wad names levels n so_far =
-    (map (λ (x : RebuiltLevel). x.entries) so_far ≡ take n levels) × All (IsRebuilt wad levels names) so_far
-
-pub one_more :
-    (wad : List ℕ) (names : List (List ℕ)) (levels : List LevelEntries) (n : ℕ) (so_far new : List RebuiltLevel) (x : RebuiltLevel) (d : LevelEntries)
-    → AreSoFar wad names levels n so_far → new ≡ so_far ++ x ∷ [] → n < length levels → x.entries ≡ get_or levels n d → IsRebuilt wad levels names x
-    → AreSoFar wad names levels (n + 1) new
-one_more wad names levels n so_far new x d s e h i r =
-    let f : RebuiltLevel → LevelEntries = λ (l : RebuiltLevel). l.entries in
-    let k : suc n ≡ n + 1 = omega arith in (
-      ap (map f) e ∙ map-append f so_far (x ∷ []) ∙ ap (λ (ls : List LevelEntries). ls ++ x.entries ∷ []) s.0
-          ∙ ap (λ (l : LevelEntries). take n levels ++ l ∷ []) i
-          ∙ sym (take-suc levels n d h)
-          ∙ ap (λ (m : ℕ). take m levels) k,
-      subst (All (IsRebuilt wad levels names)) (sym e) (All-push (IsRebuilt wad levels names) so_far x s.1 r),
-    )
-
-pub all_rebuilt :
-    (wad : List ℕ) (names : List (List ℕ)) (levels : List LevelEntries) (n : ℕ) (done : List RebuiltLevel) → AreLevels wad levels → AreSoFar wad names levels n done
-    → length levels ≤ n → AreRebuilt wad names done
-all_rebuilt wad names levels n done are s h =
-    let e = s.0 ∙ take_all n levels h in
-    record {
-      levels_are = subst (AreLevels wad) (sym e) are;
-      each = subst (λ (ls : List LevelEntries). All (IsRebuilt wad ls names) done) (sym e) s.1;
     }
 
 -- ---- what is written

@@ -1,6 +1,7 @@
 //! What becomes of each level of a WAD.
-ghost use Rattle.std.specs.Prelude.{◌≡◌, All, IfOk, IsOkUnless, map, string_bytes};
-ghost use Rattle.std.specs.List.{list_all, list_any};
+ghost use Rattle.std.specs.Prelude.{◌≡◌, All, IfOk, IsOkUnless, length, map, string_bytes};
+ghost use Rattle.std.specs.List.{list_all, list_any, range_with_len};
+ghost use Rattle.std.specs.List.Sorted.{IsPermutation};
 ghost use Rattle.wad_levels.specs.Called.{last_of_each};
 ghost use Rattle.wad_levels.specs.Entries.{AreLevels, level_name};
 ghost use Rattle.wad_file.specs.Fields.{same_bytes};
@@ -12,8 +13,9 @@ use crate::made::MadeLumps;
 use crate::remade::remake;
 use lump_records::Name8;
 use std::alloc::Global;
+use std::cmp::Reverse;
 use wad_file::Wad;
-use wad_levels::{LevelEntries, is_asked_of, last_of_each, level_name};
+use wad_levels::{LevelEntries, is_asked_of, last_of_each, level_lump, level_name};
 
 /// What became of a level.
 pub enum Fate {
@@ -90,25 +92,56 @@ fn fate_of(
     }
 }
 
-// A level and what becomes of it.
-fn rebuilt_level(
+// The levels under their names, before any is built.
+fn unbuilt(
     alloc: Global,
     wad: &Wad<'_>,
-    level: LevelEntries,
-    is_asked: bool,
-) -> Result<RebuiltLevel, RebuildError>
-    ensures name { IfOk result (λ l. l.name ≡ level_name wad.now level) }
-    ensures entries { IfOk result (λ l. l.entries ≡ level) }
-    ensures fate { IfOk result (λ l. IsFate wad.now is_asked level l.fate) }
+    levels: &[LevelEntries],
+) -> Result<Vec<RebuiltLevel>, RebuildError>
+    ensures levels { IfOk result (λ v. map (λ l. l.entries) v.items ≡ levels.now) }
+    ensures names { IfOk result (λ v. All (λ l. l.name ≡ level_name wad.now l.entries) v.items) }
     ensures memory { IsOkUnless result RebuildError.OutOfMemory }
 {
-    let name = level_name(wad, level);
-    let fate = fate_of(alloc, wad, level, is_asked)?;
-    Ok(RebuiltLevel {
-        name,
-        entries: level,
-        fate,
-    })
+    let mut unbuilt = Vec::with_capacity(alloc, levels.len())?;
+    for level in levels {
+        unbuilt.push(RebuiltLevel {
+            name: level_name(wad, *level),
+            entries: *level,
+            fate: Fate::NotAsked,
+        })?;
+    }
+    Ok(unbuilt)
+}
+
+// The numbers of the levels.
+fn numbers_of(alloc: Global, levels: &[LevelEntries]) -> Result<Vec<usize>, RebuildError>
+    ensures numbers { IfOk result (λ v. v.items ≡ range_with_len 0 (length levels.now)) }
+    ensures memory { IsOkUnless result RebuildError.OutOfMemory }
+{
+    let mut numbers = Vec::with_capacity(alloc, levels.len())?;
+    for number in 0..levels.len() {
+        numbers.push(number)?;
+    }
+    Ok(numbers)
+}
+
+// The same, those of the levels with the most lines first. The order only matters for memory: while the tree of a level
+// grows, what was made of those before it stands beside it.
+fn largest_first(
+    alloc: Global,
+    wad: &Wad<'_>,
+    levels: &[LevelEntries],
+) -> Result<Vec<usize>, RebuildError>
+    ensures order { IfOk result (λ v.
+        IsPermutation (range_with_len 0 (length levels.now)) v.items) }
+    ensures memory { IsOkUnless result RebuildError.OutOfMemory }
+{
+    let mut order = numbers_of(alloc, levels)?;
+    order.sort_by_cached_key(|number| match levels.get(*number) {
+        Some(level) => Reverse(level_lump(wad, *level, 1).len()),
+        None => Reverse(0),
+    })?;
+    Ok(order)
 }
 
 // What becomes of the levels, by their names' last ones.
@@ -124,11 +157,13 @@ fn rebuilt_by(
     ensures rebuilt { IfOk result (λ v. AreRebuilt wad.now (map string_bytes names.now) v.items) }
     ensures memory { IsOkUnless result RebuildError.OutOfMemory }
 {
-    let mut rebuilt = Vec::new(alloc);
-    for level in levels {
-        let is_asked = is_asked_of(names, last, *level);
-        let next = rebuilt_level(alloc, wad, *level, is_asked)?;
-        rebuilt.push(next)?;
+    let order = largest_first(alloc, wad, levels)?;
+    let mut rebuilt = unbuilt(alloc, wad, levels)?;
+    for number in &order {
+        let level = rebuilt[*number].entries;
+        let is_asked = is_asked_of(names, last, level);
+        let fate = fate_of(alloc, wad, level, is_asked)?;
+        rebuilt[*number].fate = fate;
     }
     Ok(rebuilt)
 }

@@ -1,7 +1,7 @@
--- The levels so far, each with what becomes of it.
+-- The levels of the order's front have what becomes of them.
 use Rattle.std.specs.Prelude.{map, string_bytes}
-use Rattle.wad_rebuild.proofs.WholeLemmas.{AreSoFar}
+use Rattle.wad_rebuild.proofs.InTurn.{AreInTurn}
 use Rattle.wad_rebuild.proofs.levels.rebuilt_by.Given as goal
 
-abbrev pub invariant-loop-level : goal.invariant-loop-level
-invariant-loop-level l = AreSoFar l.wad (map string_bytes l.names) l.levels l.level-index l.rebuilt.items
+abbrev pub invariant-loop-number : goal.invariant-loop-number
+invariant-loop-number l = AreInTurn l.wad (map string_bytes l.names) l.levels l.number-items l.number-index l.rebuilt.items
