@@ -155,6 +155,7 @@ impl<T: Copy> Table<T> {
     }
 
     // Makes room: `more` further items allocate no memory.
+    #[inline(always)]
     pub(super) fn reserve(&mut self, more: usize) -> Result<(), MapError>
         ensures items { self.new.items ≡ self.old.items }
         ensures keys { self.new.keys ≡ self.old.keys }
@@ -168,6 +169,18 @@ impl<T: Copy> Table<T> {
         if more <= self.spare() {
             return Ok(());
         }
+        self.grow(more)
+    }
+
+    // Makes room for more items than there are spare places.
+    fn grow(&mut self, more: usize) -> Result<(), MapError>
+        requires { self.old.spare < more }
+        ensures items { self.new.items ≡ self.old.items }
+        ensures keys { self.new.keys ≡ self.old.keys }
+        ensures spare { self.old.spare ≤ self.new.spare }
+        ensures ok { OnOk result (more ≤ self.new.spare) }
+        ensures memory { IsOkUnless result MapError.OutOfMemory }
+    {
         let len = self.order.len();
         // the ranks first: if the rest fails, each key still has a rank
         widen(&mut self.ranks, len.saturating_add(more))?;
