@@ -1,7 +1,7 @@
 -- The least box of places: of one, of two lists together, and of a list as it grows.
-use Rattle.std.proofs.Common.{◌≡◌, refl, sym, ap, ◌∙◌, subst, ℕ, ◌+◌, ◌<◌, ◌≤◌, ◌⊎◌, inl, inr, ⊎_elim, List, ◌++◌, length, Some, arith, slice_get}
+use Rattle.std.proofs.Common.{◌≡◌, refl, sym, ap, ◌∙◌, ℕ, ◌+◌, ◌<◌, ◌≤◌, ◌⊎◌, inl, inr, ⊎_elim, List, ◌++◌, length, Option, Some, None, option_map, arith, slice_get}
 use Rattle.std.proofs.lemmas.Bool.{cases_lt}
-use Rattle.std.proofs.lemmas.Option.{slice_get_within}
+use Rattle.std.proofs.lemmas.Option.{slice_get_within, slice_get-map}
 use Rattle.std.specs.Prelude.{ℤ, ◌≤ℤ◌, FitsSigned}
 use Rattle.std.specs.Int.{w16}
 use Rattle.std.proofs.lemmas.Int.{to_z-of_z}
@@ -13,7 +13,9 @@ use Rattle.tree_pieces.specs.declared.edge.Edge.{Edge}
 use Rattle.tree_pieces.specs.declared.piece.Piece.{Piece}
 use Rattle.tree_pieces.specs.Nodes.{IsLeastBox}
 use Rattle.tree_nodes.specs.TreeLists.{IsEndOf}
-use Rattle.tree_nodes.specs.Corners.{IsBoxAt, IsJoined, IsOneEnd, IsEndBefore}
+use Rattle.tree_pieces.specs.Pieces.{first_end, last_end}
+use Rattle.tree_choice.specs.Columns.{AreEnds}
+use Rattle.tree_nodes.specs.Corners.{IsBoxAt, IsJoined, IsEither, StandsInOne, StandsBefore}
 use Rattle.tree_nodes.proofs.Places.{get_left, get_right, get_cases}
 
 at_most : (a b c : ℤ) → a ≤ℤ b → b ≤ℤ c → a ≤ℤ c
@@ -81,40 +83,75 @@ joined_pieces lines a b c ps qs h k j = same_box c (λ v. IsEndOf lines ps v ⊎
     from : (v : Vertex) → IsEndOf lines (ps ++ qs) v → IsEndOf lines ps v ⊎ IsEndOf lines qs v
     from v e = ⊎_elim (λ s. inl (e.0, e.1, s, e.3)) (λ s. inr (s.0, e.1, s.2, e.3)) (get_cases ps qs e.0 e.1 e.2)
 
--- ---- a list as it grows
-module _ (lines : List Edge) (ps : List Piece) where
-  pub first_ends : (b : Bounds) (p : Piece) → slice_get ps 0 ≡ Some p → IsLeastBox b (IsOneEnd lines p) → IsLeastBox b (IsEndBefore lines ps 0)
-  first_ends b p at h = same_box b (IsOneEnd lines p) (IsEndBefore lines ps 0) (λ v e. (0, p, inl refl, at, e)) from h
+-- ---- two columns as they are read
+-- what stands in two columns at one place
+this_two : (fs ls : List Vertex) (f l v : Vertex) (n j : ℕ) → j ≡ n → slice_get fs n ≡ Some f → slice_get ls n ≡ Some l
+    → (slice_get fs j ≡ Some v) ⊎ (slice_get ls j ≡ Some v) → IsEither f l v
+this_two fs ls f l v n j z at beside = ⊎_elim
+    (λ s. let t = ap (slice_get fs) z in inl (let same : v ≡ f = cc in same))
+    (λ s. let t = ap (slice_get ls) z in inr (let same : v ≡ l = cc in same))
+
+module _ (fs ls : List Vertex) where
+  pub first_two : (b : Bounds) (f l : Vertex) → slice_get fs 0 ≡ Some f → slice_get ls 0 ≡ Some l → IsLeastBox b (IsEither f l) → IsLeastBox b (StandsBefore fs ls 0)
+  first_two b f l at beside h = same_box b (IsEither f l) (StandsBefore fs ls 0) to from h
     where
-      from : (v : Vertex) → IsEndBefore lines ps 0 v → IsOneEnd lines p v
-      from v e = let is : e.1 ≡ p = ⊎_elim (λ (z : e.0 ≡ 0). same e.0 e.1 e.3 z) (λ (l : e.0 < 0). absurd (omega arith)) e.2 in subst (λ (q : Piece). IsOneEnd lines q v) is e.4
-        where
-          same : (j : ℕ) (q : Piece) → slice_get ps j ≡ Some q → j ≡ 0 → q ≡ p
-          same j q s z = let t = ap (slice_get ps) z in cc
+      to : (v : Vertex) → IsEither f l v → StandsBefore fs ls 0 v
+      to v e = (0, inl refl, ⊎_elim (λ (i : v ≡ f). inl (at ∙ ap Some (sym i))) (λ (i : v ≡ l). inr (beside ∙ ap Some (sym i))) e)
 
-  pub next_ends : (a b c : Bounds) (n : ℕ) (p : Piece) → slice_get ps n ≡ Some p → IsLeastBox a (IsEndBefore lines ps n)
-      → IsLeastBox b (IsOneEnd lines p) → IsJoined a b c → IsLeastBox c (IsEndBefore lines ps (n + 1))
-  next_ends a b c n p at h k j =
-      same_box c (λ v. IsEndBefore lines ps n v ⊎ IsOneEnd lines p v) (IsEndBefore lines ps (n + 1)) to from
-      (joined_box a b c (IsEndBefore lines ps n) (IsOneEnd lines p) h k j)
+      here : (v : Vertex) (j : ℕ) → j ≡ 0 → (slice_get fs j ≡ Some v) ⊎ (slice_get ls j ≡ Some v) → IsEither f l v
+      here v j z s = this_two fs ls f l v 0 j z at beside s
+
+      from : (v : Vertex) → StandsBefore fs ls 0 v → IsEither f l v
+      from v e = here v e.0 (⊎_elim (λ (z : e.0 ≡ 0). z) (λ (k : e.0 < 0). absurd (omega arith)) e.1) e.2
+
+  pub next_two : (a b c : Bounds) (n : ℕ) (f l : Vertex) → slice_get fs n ≡ Some f → slice_get ls n ≡ Some l → IsLeastBox a (StandsBefore fs ls n)
+      → IsLeastBox b (IsEither f l) → IsJoined a b c → IsLeastBox c (StandsBefore fs ls (n + 1))
+  next_two a b c n f l at beside h k j =
+      same_box c (λ v. StandsBefore fs ls n v ⊎ IsEither f l v) (StandsBefore fs ls (n + 1)) to from
+      (joined_box a b c (StandsBefore fs ls n) (IsEither f l) h k j)
     where
-      to : (v : Vertex) → IsEndBefore lines ps n v ⊎ IsOneEnd lines p v → IsEndBefore lines ps (n + 1) v
-      to v = ⊎_elim (λ e. (e.0, e.1, ⊎_elim (λ z. inl z) (λ l. inr (omega arith)) e.2, e.3, e.4)) (λ e. (n, p, inr (omega arith), at, e))
+      now : (v : Vertex) → IsEither f l v → StandsBefore fs ls (n + 1) v
+      now v e = (n, inr (omega arith), ⊎_elim (λ (i : v ≡ f). inl (at ∙ ap Some (sym i))) (λ (i : v ≡ l). inr (beside ∙ ap Some (sym i))) e)
 
-      this : (v : Vertex) (m : ℕ) (q : Piece) → slice_get ps m ≡ Some q → IsOneEnd lines q v → n ≤ m → m < n + 1 → IsOneEnd lines p v
-      this v m q s e lo hi =
-          let same : m ≡ n = omega arith in
-          let t = ap (slice_get ps) same in
-          let is : q ≡ p = cc in
-          subst (λ (x : Piece). IsOneEnd lines x v) is e
+      to : (v : Vertex) → StandsBefore fs ls n v ⊎ IsEither f l v → StandsBefore fs ls (n + 1) v
+      to v = ⊎_elim (λ e. (e.0, ⊎_elim (λ z. inl z) (λ l. inr (omega arith)) e.1, e.2)) (now v)
 
-      from : (v : Vertex) → IsEndBefore lines ps (n + 1) v → IsEndBefore lines ps n v ⊎ IsOneEnd lines p v
-      from v e = ⊎_elim (λ z. inl (e.0, e.1, inl z, e.3, e.4)) (λ l. ⊎_elim (λ m. inl (e.0, e.1, inr m, e.3, e.4)) (λ m. inr (this v e.0 e.1 e.3 e.4 m l)) (cases_lt e.0 n)) e.2
+      from : (v : Vertex) → StandsBefore fs ls (n + 1) v → StandsBefore fs ls n v ⊎ IsEither f l v
+      from v e = ⊎_elim (λ z. inl (e.0, inl z, e.2))
+          (λ below. ⊎_elim (λ m. inl (e.0, inr m, e.2)) (λ m. inr (let same : e.0 ≡ n = omega arith in this_two fs ls f l v n e.0 same at beside e.2)) (cases_lt e.0 n)) e.1
 
-  pub all_ends : (b : Bounds) (n : ℕ) → length ps ≤ n → 0 < length ps → IsLeastBox b (IsEndBefore lines ps n) → IsLeastBox b (IsEndOf lines ps)
-  all_ends b n long some h =
-      same_box b (IsEndBefore lines ps n) (IsEndOf lines ps) (λ v e. (e.0, e.1, e.3, e.4))
-      (λ v e. (e.0, e.1, inr (let w = slice_get_within ps e.0 e.1 e.2 in omega arith), e.2, e.3)) h
+  pub all_two : (b : Bounds) (n : ℕ) → length fs ≤ n → length ls ≡ length fs → IsLeastBox b (StandsBefore fs ls n) → IsLeastBox b (StandsInOne fs ls)
+  all_two b n long beside h =
+      same_box b (StandsBefore fs ls n) (StandsInOne fs ls) (λ v e. (e.0, e.2)) (λ v e. (e.0, inr (within v e.0 e.1), e.1)) h
+    where
+      within : (v : Vertex) (j : ℕ) → (slice_get fs j ≡ Some v) ⊎ (slice_get ls j ≡ Some v) → j < n
+      within v j = ⊎_elim (λ s. let w = slice_get_within fs j v s in omega arith) (λ s. let w = slice_get_within ls j v s in omega arith)
+
+-- the columns of a list's ends
+pub ends_box : (lines : List Edge) (b : Bounds) (ps : List Piece) (fs ls : List Vertex) → AreEnds lines ps fs ls
+    → IsLeastBox b (StandsInOne fs ls) → IsLeastBox b (IsEndOf lines ps)
+ends_box lines b ps fs ls ends h = same_box b (StandsInOne fs ls) (IsEndOf lines ps) to from h
+  where
+    firsts : (j : ℕ) → slice_get fs j ≡ option_map (first_end lines) (slice_get ps j)
+    firsts j = ap (λ (x : List Vertex). slice_get x j) ends.firsts_are ∙ slice_get-map (first_end lines) ps j
+
+    lasts : (j : ℕ) → slice_get ls j ≡ option_map (last_end lines) (slice_get ps j)
+    lasts j = ap (λ (x : List Vertex). slice_get x j) ends.lasts_are ∙ slice_get-map (last_end lines) ps j
+
+    behind : (end : Piece → Vertex) (v : Vertex) (o : Option Piece) → option_map end o ≡ Some v → (q : Piece) × (o ≡ Some q) × (v ≡ end q)
+    behind end v None e = cc
+    behind end v (Some q) e = (q, refl, cc)
+
+    to : (v : Vertex) → StandsInOne fs ls v → IsEndOf lines ps v
+    to v e = ⊎_elim (λ s. let q = behind (first_end lines) v (slice_get ps e.0) (sym (firsts e.0) ∙ s) in (e.0, q.0, q.1, inl q.2))
+        (λ s. let q = behind (last_end lines) v (slice_get ps e.0) (sym (lasts e.0) ∙ s) in (e.0, q.0, q.1, inr q.2)) e.1
+
+    from : (v : Vertex) → IsEndOf lines ps v → StandsInOne fs ls v
+    from v e = (
+      e.0,
+      ⊎_elim (λ i. inl (firsts e.0 ∙ ap (option_map (first_end lines)) e.2 ∙ ap Some (sym i)))
+          (λ i. inr (lasts e.0 ∙ ap (option_map (last_end lines)) e.2 ∙ ap Some (sym i))) e.3,
+    )
 
 -- ---- numbers of 16 bits that were passed on
 -- one side of the box that holds two

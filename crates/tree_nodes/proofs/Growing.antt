@@ -1,5 +1,5 @@
 -- One step of the recursion: a leaf, a node over two grown trees, and why it stops.
-use Rattle.std.proofs.Common.{◌≡◌, refl, sym, ap, ◌∙◌, subst, ℕ, zero, suc, ◌+◌, ◌-◌, ◌<◌, ◌≤◌, List, [], ◌∷◌, ◌++◌, append_assoc, length, Some, Bool, true, false, arith, slice_get, All, Vec, Global, Result, Ok, Err, IfOk, IfErr}
+use Rattle.std.proofs.Common.{◌≡◌, refl, sym, ap, ◌∙◌, subst, ℕ, zero, suc, ◌+◌, ◌-◌, ◌<◌, ◌≤◌, List, [], ◌∷◌, ◌++◌, append_assoc, length, Some, Bool, true, false, arith, slice_get, All, Result, Ok, Err, IfOk, IfErr}
 use Rattle.std.specs.Prelude.{slice_set, filter_map, Option, None}
 use Rattle.std.specs.List.{cons_option}
 use Rattle.std.proofs.lemmas.List.{length-append}
@@ -17,6 +17,7 @@ use Rattle.tree_pieces.proofs.Choice.{one_tree, one_best}
 use Rattle.tree_pieces.proofs.Trees.{right_reached, left_reached}
 use Rattle.tree_nodes.specs.InRange.{greatest_number}
 use Rattle.tree_nodes.specs.TreeLists.{leaf_count, branch_count, child_of, IsEndOf, HasNodes}
+use Rattle.tree_choice.specs.declared.ends.EndedList.{EndedList}
 use Rattle.tree_nodes.specs.Placed.{IsPlacedList}
 use Rattle.tree_nodes.specs.Growth.{Lists, IsListStep, HasPlacedLists, IsGrown, IsRefused, IsDivision, IsLeafPut, IsLeafRefused, IsNodePut}
 use Rattle.tree_nodes.specs.declared.error.TreeError.{TreeError}
@@ -245,7 +246,7 @@ division_of lines ps used s p right left f h = subst (IsListStep lines ps used) 
 pub lists_are : (lines : List Edge) (s : Step) (p : Piece) (right left : PlacedPieces) → s ≡ StepParts p right left → HasPlacedLists lines s → IsPlacedList lines right × IsPlacedList lines left
 lists_are lines s p right left f h = subst (HasPlacedLists lines) f h
 
-pub leaf_of : (lines : List Edge) (ps : List Piece) (used : List Bool) (s : Step) (leaf : Vec Piece Global) → s ≡ StepLeaf leaf → IsListStep lines ps used s → (leaf.items ≡ ps) × HasNoChoice lines ps used
+pub leaf_of : (lines : List Edge) (ps : List Piece) (used : List Bool) (s : Step) (leaf : EndedList) → s ≡ StepLeaf leaf → IsListStep lines ps used s → (leaf.pieces.items ≡ ps) × HasNoChoice lines ps used
 leaf_of lines ps used s leaf f h = subst (IsListStep lines ps used) f h
 
 -- ---- what a result says

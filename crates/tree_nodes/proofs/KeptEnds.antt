@@ -106,10 +106,10 @@ pub one_left : (lines : List Edge) (partition p : Piece) (parts : Parts) → par
 one_left lines partition p parts e = ap (λ (x : Parts). option_to_list x.left) e ∙ sym (consed (parts_of lines partition p).left)
 
 -- what is kept so far with what is kept of the next item, and what the items behind it will add
-pub gained : {X Y : Type 0} (f : X → Option Y) (xs : List X) (n : ℕ) (d : X) (old new : List Y) → n < length xs
-    → new ≡ old ++ filter_map f (get_or xs n d ∷ []) → old ++ filter_map f (drop n xs) ≡ filter_map f xs → new
-    ++ filter_map f (drop (n + 1) xs) ≡ filter_map f xs
-gained {X} {Y} f xs n d old new h e k =
+pub gained : {X Y : Type 0} {all : List Y} (f : X → Option Y) (xs : List X) (n : ℕ) (d : X) (old new : List Y) → n < length xs
+    → new ≡ old ++ filter_map f (get_or xs n d ∷ []) → old ++ filter_map f (drop n xs) ≡ all → new
+    ++ filter_map f (drop (n + 1) xs) ≡ all
+gained {X} {Y} {all} f xs n d old new h e k =
     let q = get_or xs n d in
     let s : drop n xs ≡ q ∷ drop (n + 1) xs = drop-cons xs n d h ∙ ap (λ (i : ℕ). q ∷ drop i xs) (sym (add-one n)) in
     ap (λ (x : List Y). x ++ filter_map f (drop (n + 1) xs)) e

@@ -32,7 +32,16 @@ pub record IsJoined (a b c : Bounds) : Type 0 where
 abbrev pub IsOneEnd : List Edge → Piece → Vertex → Type 0
 IsOneEnd lines p v = (v ≡ first_end lines p) ⊎ (v ≡ last_end lines p)
 
--- a place is a rounded end of the first piece, or of one of the first n
-abbrev pub IsEndBefore : List Edge → List Piece → ℕ → Vertex → Type 0
-IsEndBefore lines ps n v = (j : ℕ) × (q : Piece) × ((j ≡ 0) ⊎ (j < n)) × (slice_get ps j ≡ Some q)
-    × IsOneEnd lines q v
+-- a place is one of these two
+abbrev pub IsEither : Vertex → Vertex → Vertex → Type 0
+IsEither first last v = (v ≡ first) ⊎ (v ≡ last)
+
+-- a place stands in one of two columns
+abbrev pub StandsInOne : List Vertex → List Vertex → Vertex → Type 0
+StandsInOne firsts lasts v = (j : ℕ)
+    × ((slice_get firsts j ≡ Some v) ⊎ (slice_get lasts j ≡ Some v))
+
+-- it is the first of its column, or one of the first n
+abbrev pub StandsBefore : List Vertex → List Vertex → ℕ → Vertex → Type 0
+StandsBefore firsts lasts n v = (j : ℕ) × ((j ≡ 0) ⊎ (j < n))
+    × ((slice_get firsts j ≡ Some v) ⊎ (slice_get lasts j ≡ Some v))

@@ -17,6 +17,7 @@ use Rattle.tree_nodes.specs.InRange.{greatest_number}
 use Rattle.tree_nodes.specs.References.{subsector}
 use Rattle.tree_nodes.specs.TreeLists.{child_of, IsEndOf, HasNodes}
 use Rattle.tree_nodes.specs.Corners.{IsJoined}
+use Rattle.tree_choice.specs.Columns.{IsEnded}
 use Rattle.tree_nodes.specs.Placed.{IsPlacedList}
 
 -- ---- one step
@@ -30,13 +31,14 @@ pub record IsDivision (lines : List Edge) (ps : List Piece) (used : List Bool) (
 
 -- what comes of a list
 abbrev pub IsListStep : List Edge → List Piece → List Bool → Step → Type 0
-IsListStep lines ps used (StepLeaf leaf) = (leaf.items ≡ ps) × HasNoChoice lines ps used
+IsListStep lines ps used (StepLeaf leaf) = (leaf.pieces.items ≡ ps) × HasNoChoice lines ps used
 IsListStep lines ps used (StepParts partition right left) =
     IsDivision lines ps used partition right.pieces.items left.pieces.items
 
--- beside each of its lists stands what a list has: rounded ends, and perhaps an order and floors
+-- beside a leaf stand its rounded ends, and beside each of the parts what a list has: rounded
+-- ends, and perhaps an order and floors
 abbrev pub HasPlacedLists : List Edge → Step → Type 0
-HasPlacedLists lines (StepLeaf leaf) = Unit {0}
+HasPlacedLists lines (StepLeaf leaf) = IsEnded lines leaf
 HasPlacedLists lines (StepParts partition right left) =
     IsPlacedList lines right × IsPlacedList lines left
 

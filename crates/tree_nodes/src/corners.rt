@@ -1,12 +1,9 @@
 //! The least boxes that hold some places.
-ghost use Rattle.std.specs.Prelude.{◌≡◌, ◌<◌, ◌≤ℤ◌, ◌⊎◌, length, All};
-ghost use Rattle.tree_pieces.specs.Pieces.{IsPiece};
+ghost use Rattle.std.specs.Prelude.{◌≡◌, ◌<◌, ◌≤ℤ◌, ◌⊎◌, length};
 ghost use Rattle.tree_pieces.specs.Nodes.{IsLeastBox};
-ghost use Rattle.tree_nodes.specs.TreeLists.{IsEndOf};
-ghost use Rattle.tree_nodes.specs.Corners.{IsBoxAt, IsJoined, IsOneEnd};
+ghost use Rattle.tree_nodes.specs.Corners.{IsBoxAt, IsJoined, IsEither, StandsInOne};
 
 use lump_records::{Bounds, Vertex};
-use tree_pieces::{Lines, Piece};
 
 fn lesser(a: i16, b: i16) -> i16
     ensures first { result ≤ℤ a }
@@ -48,24 +45,22 @@ pub(crate) fn joined(a: Bounds, b: Bounds) -> Bounds
     }
 }
 
-// The least box that holds a piece's rounded ends.
-fn box_of_ends(lines: &Lines, piece: &Piece) -> Bounds
-    requires piece { IsPiece lines.now piece.now }
-    ensures { IsLeastBox result (IsOneEnd lines.now piece.now) }
+// The least box that holds two places.
+fn box_of_two(first: Vertex, last: Vertex) -> Bounds
+    ensures { IsLeastBox result (IsEither first last) }
 {
-    let ends = lines.ends_of(piece);
-    joined(box_at(ends.first), box_at(ends.last))
+    joined(box_at(first), box_at(last))
 }
 
-/// The least box that holds the rounded ends of some pieces.
-pub(crate) fn bounds_of(lines: &Lines, pieces: &[Piece]) -> Bounds
-    requires pieces { All (IsPiece lines.now) pieces.now }
-    requires some { 0 < length pieces.now }
-    ensures { IsLeastBox result (IsEndOf lines.now pieces.now) }
+/// The least box that holds the places of two columns.
+pub(crate) fn bounds_of(firsts: &[Vertex], lasts: &[Vertex]) -> Bounds
+    requires beside { length lasts.now ≡ length firsts.now }
+    requires some { 0 < length firsts.now }
+    ensures { IsLeastBox result (StandsInOne firsts.now lasts.now) }
 {
-    let mut bounds = box_of_ends(lines, &pieces[0]);
-    for piece in pieces {
-        bounds = joined(bounds, box_of_ends(lines, piece));
+    let mut bounds = box_of_two(firsts[0], lasts[0]);
+    for (n, first) in firsts.iter().enumerate() {
+        bounds = joined(bounds, box_of_two(*first, lasts[n]));
     }
     bounds
 }

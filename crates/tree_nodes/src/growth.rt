@@ -3,11 +3,13 @@ ghost use Rattle.std.specs.Prelude.{◌≡◌, ◌<◌, length, IfOk, IfErr, All
 ghost use Rattle.tree_pieces.specs.Pieces.{IsPiece};
 ghost use Rattle.tree_pieces.specs.Local.{IsLineRay};
 ghost use Rattle.tree_pieces.specs.Nodes.{node_ray};
+ghost use Rattle.tree_choice.specs.Columns.{IsEnded};
 ghost use Rattle.tree_nodes.specs.Growth.{lists_of, IsLeafPut, IsLeafRefused, IsNodePut};
 
 use crate::corners::{bounds_of, joined};
 use crate::error::TreeError;
 use lump_records::{Bounds, Node, Ray};
+use tree_choice::EndedList;
 use tree_pieces::{Lines, Piece};
 
 // The greatest number of segs or of subsectors.
@@ -29,29 +31,34 @@ pub(crate) struct Child {
 }
 
 /// Appends a leaf, as one subsector.
-pub(crate) fn put_leaf(lines: &Lines, leaf: &[Piece], grown: &mut Grown) -> Result<Child, TreeError>
-    requires pieces { All (IsPiece lines.now) leaf.now }
-    requires some { 0 < length leaf.now }
+pub(crate) fn put_leaf(
+    lines: &Lines,
+    leaf: &EndedList,
+    grown: &mut Grown,
+) -> Result<Child, TreeError>
+    requires ended { IsEnded lines.now leaf.now }
+    requires some { 0 < length leaf.now.pieces.items }
     ensures ok { IfOk result
-        (IsLeafPut lines.now leaf.now (lists_of grown.old) (lists_of grown.new)) }
-    ensures refused { IfErr result (IsLeafRefused leaf.now (lists_of grown.old)) }
+        (IsLeafPut lines.now leaf.now.pieces.items (lists_of grown.old) (lists_of grown.new)) }
+    ensures refused { IfErr result (IsLeafRefused leaf.now.pieces.items (lists_of grown.old)) }
 {
     let number = grown.counts.len();
     if number >= MOST {
         return Err(TreeError::TooManySubsectors);
     }
-    if leaf.len() > MOST || grown.pieces.len() > MOST - leaf.len() {
+    let size = leaf.pieces.len();
+    if size > MOST || grown.pieces.len() > MOST - size {
         return Err(TreeError::TooManySegs);
     }
-    if grown.counts.push(leaf.len()).is_err() {
+    if grown.counts.push(size).is_err() {
         return Err(TreeError::OutOfMemory);
     }
-    if grown.pieces.extend_from_slice(leaf).is_err() {
+    if grown.pieces.extend_from_slice(&leaf.pieces).is_err() {
         return Err(TreeError::OutOfMemory);
     }
     Ok(Child {
         number: 32768 + number as u16,
-        bounds: bounds_of(lines, leaf),
+        bounds: bounds_of(&leaf.firsts, &leaf.lasts),
     })
 }
 

@@ -5,6 +5,7 @@ mod built;
 mod corners;
 mod error;
 mod growth;
+mod kept;
 mod laws;
 mod open_tree;
 mod orders;

@@ -3,21 +3,23 @@
 ghost use Rattle.std.specs.Prelude.{◌≡◌, ◌<◌, ◌≤◌, ◌^◌, [], ◌∷◌, true, false, length, vec_len, All, IfOk, IfErr, OnOk};
 ghost use Rattle.tree_pieces.specs.Pieces.{IsPiece};
 ghost use Rattle.tree_pieces.specs.Tree.{IsReached};
+ghost use Rattle.tree_choice.specs.Columns.{IsEnded};
 ghost use Rattle.tree_nodes.specs.Placed.{IsPlacedList};
 ghost use Rattle.tree_nodes.specs.Growth.{lists_of, IsRefused, IsLeafRefused};
 ghost use Rattle.tree_nodes.specs.OpenTree.{HasNext, HasGrown, IsNextRefused, IsLeafEnded, IsNodeOpened, HasNodeOpen, CanClose, HasNodeClosed, HasGrownTree};
 
 use crate::error::TreeError;
 use crate::growth::{Child, Grown, put_leaf, put_node};
+use crate::kept::{MOST_KEPT, keep};
 use crate::placed::PlacedPieces;
 use crate::step::{Step, step_in};
 use std::alloc::{AllocError, Global};
-use tree_choice::StraightLines;
+use tree_choice::{EndedList, StraightLines};
 use tree_pieces::{Lines, Piece};
 
 /// A tree that is being grown: the lists of pieces that wait, the next one last; the partitions of the nodes on the
-/// path; the trees that have grown and are no child yet; the lines that partitions of the path have used; and what has
-/// been built.
+/// path; the trees that have grown and are no child yet; the lines that partitions of the path have used; lists that
+/// are kept for their room; and what has been built.
 #[derive(Drop)]
 pub(crate) struct OpenTree {
     pub lists: Vec<PlacedPieces>,
@@ -25,20 +27,22 @@ pub(crate) struct OpenTree {
     pub children: Vec<Child>,
     pub used: Vec<bool>,
     pub straight: StraightLines,
+    pub kept: Vec<EndedList>,
     pub grown: Grown,
 }
 
 // Puts a leaf down, as a tree that is no child yet.
-fn end_leaf(lines: &Lines, leaf: &[Piece], tree: &mut OpenTree) -> Result<(), TreeError>
-    requires pieces { All (IsPiece lines.now) leaf.now }
-    requires some { 0 < length leaf.now }
-    ensures ok { OnOk result (IsLeafEnded lines.now leaf.now tree.old tree.new) }
-    ensures refused { IfErr result (IsLeafRefused leaf.now (lists_of tree.old.grown)) }
+fn end_leaf(lines: &Lines, leaf: EndedList, tree: &mut OpenTree) -> Result<(), TreeError>
+    requires ended { IsEnded lines.now leaf }
+    requires some { 0 < length leaf.pieces.items }
+    ensures ok { OnOk result (IsLeafEnded lines.now leaf.pieces.items tree.old tree.new) }
+    ensures refused { IfErr result (IsLeafRefused leaf.pieces.items (lists_of tree.old.grown)) }
 {
-    let child = match put_leaf(lines, leaf, &mut tree.grown) {
+    let child = match put_leaf(lines, &leaf, &mut tree.grown) {
         Err(error) => return Err(error),
         Ok(child) => child,
     };
+    keep(leaf, &mut tree.kept);
     match tree.children.push(child) {
         Err(_) => Err(TreeError::OutOfMemory),
         Ok(()) => Ok(()),
@@ -82,12 +86,19 @@ fn divide_next(
     let Some(list) = tree.lists.pop() else {
         unreachable!();
     };
-    let step = match step_in(alloc, lines, list, &tree.used, &mut tree.straight) {
+    let step = match step_in(
+        alloc,
+        lines,
+        list,
+        &tree.used,
+        &mut tree.straight,
+        &mut tree.kept,
+    ) {
         Err(_) => return Err(TreeError::OutOfMemory),
         Ok(step) => step,
     };
     match step {
-        Step::Leaf(leaf) => match end_leaf(lines, &leaf, tree) {
+        Step::Leaf(leaf) => match end_leaf(lines, leaf, tree) {
             Err(error) => Err(error),
             Ok(()) => Ok(false),
         },
@@ -181,6 +192,7 @@ fn tree_over(
         children: Vec::new(alloc),
         used,
         straight,
+        kept: Vec::with_capacity(alloc, MOST_KEPT)?,
         grown,
     })
 }

@@ -16,6 +16,16 @@ pub(crate) const LONG: usize = 256;
 // What is noted of a piece that has no part.
 const NO_PART: u32 = u32::MAX;
 
+// A new order by places. Few lists need one, so it stands alone.
+#[inline(never)]
+fn new_order(alloc: Global, lines: &Lines, list: &[Piece]) -> Result<Option<Vec<u32>>, AllocError>
+    requires few { length list.now < 2 ^ 31 }
+    ensures { IfOk result (λ own. IfSome own (IsPlaced list.now)) }
+{
+    let order = numbers_by_place(alloc, lines, list)?;
+    Ok(Some(order))
+}
+
 /// The order by places of a long list: the one that it has already, or else a new one.
 pub(crate) fn order_of(
     alloc: Global,
@@ -32,10 +42,7 @@ pub(crate) fn order_of(
     }
     match order {
         Some(order) => Ok(Some(order)),
-        None => {
-            let order = numbers_by_place(alloc, lines, list)?;
-            Ok(Some(order))
-        }
+        None => new_order(alloc, lines, list),
     }
 }
 

@@ -6,7 +6,7 @@ ghost use Rattle.tree_choice.specs.Candidates.{IsSighted, AreEnded};
 ghost use Rattle.tree_choice.specs.Columns.{IsEnded};
 ghost use Rattle.tree_nodes.specs.Placed.{HasNotes};
 
-use crate::orders::{LONG, note_part, notes_of};
+use crate::orders::{note_part, notes_of};
 use std::alloc::{AllocError, Global};
 use tree_choice::{Candidate, Choice, EndedList, EndedPieces};
 use tree_pieces::{Ends, Lines, Parts, Piece, Place, divide_in};
@@ -117,9 +117,10 @@ fn put_parts(
     }
 }
 
-// The same as `part_list`, with notes for each side of which they are of use. The loop that notes nothing stands alone,
-// since most lists are short.
-fn part_noted(
+/// The parts of a list on the two sides of a partition, with their rounded ends, and with notes for each side of which
+/// the parts are to have an order by places. `choice` tells how many there will be, so that there is room for them;
+/// wrong numbers would only cost time.
+pub(crate) fn part_noted(
     alloc: Global,
     lines: &Lines,
     partition: &Piece,
@@ -165,49 +166,34 @@ fn part_noted(
     })
 }
 
-/// The parts of a list on the two sides of a partition, with their rounded ends, and with notes for a side of which the
-/// parts are to have an order by places. `choice` tells how many there will be, so that there is room for them; wrong
-/// numbers would only cost time.
+/// Appends the parts of a list on the two sides of a partition, with their rounded ends.
 pub(crate) fn part_list(
-    alloc: Global,
     lines: &Lines,
     partition: &Piece,
-    choice: Choice,
     list: &EndedPieces,
-) -> Result<Sides, AllocError>
+    right: &mut EndedList,
+    left: &mut EndedList,
+) -> Result<(), AllocError>
     requires partition { IsPiece lines.now partition.now }
     requires list { AreEnded lines.now list.now }
-    requires few { length list.now.pieces.now < 2 ^ 31 }
-    ensures right { IfOk result (λ sides. sides.right.pieces.items
-        ≡ right_parts lines.now partition.now list.now.pieces.now) }
-    ensures left { IfOk result (λ sides. sides.left.pieces.items
-        ≡ left_parts lines.now partition.now list.now.pieces.now) }
-    ensures right_ended { IfOk result (λ sides. IsEnded lines.now sides.right) }
-    ensures left_ended { IfOk result (λ sides. IsEnded lines.now sides.left) }
-    ensures right_notes { IfOk result (λ sides. IfSome sides.right_notes
-        (HasNotes (length list.now.pieces.now) (length sides.right.pieces.items))) }
-    ensures left_notes { IfOk result (λ sides. IfSome sides.left_notes
-        (HasNotes (length list.now.pieces.now) (length sides.left.pieces.items))) }
+    requires right { IsEnded lines.now right.old }
+    requires left { IsEnded lines.now left.old }
+    ensures right { OnOk result (right.new.pieces.items ≡ right.old.pieces.items
+        ++ right_parts lines.now partition.now list.now.pieces.now) }
+    ensures left { OnOk result (left.new.pieces.items ≡ left.old.pieces.items
+        ++ left_parts lines.now partition.now list.now.pieces.now) }
+    ensures right_ended { OnOk result (IsEnded lines.now right.new) }
+    ensures left_ended { OnOk result (IsEnded lines.now left.new) }
 {
-    if choice.right.max(choice.left) as usize > LONG {
-        return part_noted(alloc, lines, partition, choice, list);
-    }
     let by = Candidate::of(lines, partition);
     let firsts = list.firsts;
     let lasts = list.lasts;
-    let mut right = EndedList::with_room(alloc, choice.right as usize)?;
-    let mut left = EndedList::with_room(alloc, choice.left as usize)?;
     for (n, piece) in list.pieces.iter().enumerate() {
         let ends = Ends {
             first: firsts[n],
             last: lasts[n],
         };
-        put_parts(&by, piece, ends, &mut right, &mut left)?;
+        put_parts(&by, piece, ends, right, left)?;
     }
-    Ok(Sides {
-        right,
-        left,
-        right_notes: None,
-        left_notes: None,
-    })
+    Ok(())
 }

@@ -1,6 +1,8 @@
 //! A list of pieces with their rounded ends, and an order of them by their places on the map.
-ghost use Rattle.std.specs.Prelude.{◌≡◌, All, IfOk};
+ghost use Rattle.std.specs.Prelude.{◌≡◌, List, All, IfOk};
+ghost use Rattle.tree_pieces.specs.declared.edge.Edge.{Edge};
 ghost use Rattle.tree_pieces.specs.Pieces.{IsPiece};
+ghost use Rattle.tree_choice.specs.Columns.{IsEnded};
 ghost use Rattle.tree_nodes.specs.Placed.{IsPlacedList};
 
 use lump_records::Vertex;
@@ -32,7 +34,16 @@ impl PlacedPieces {
         ensures listed { IfOk result (IsPlacedList lines.now) }
     {
         let list = EndedList::of(alloc, lines, pieces)?;
-        Ok(PlacedPieces::with_order(list, None, Vec::new(alloc)))
+        Ok(PlacedPieces::alone(alloc, list))
+    }
+
+    /// A list without an order by places, and with nothing known of its pieces.
+    pub(crate) fn alone(alloc: Global, list: EndedList) -> PlacedPieces
+        ensures pieces { result.pieces.items ≡ list.pieces.items }
+        ensures listed { (lines : List Edge) → All (IsPiece lines) list.pieces.items →
+            IsEnded lines list → IsPlacedList lines result }
+    {
+        PlacedPieces::with_order(list, None, Vec::new(alloc))
     }
 
     /// A list with this order, and with what is known of its pieces.

@@ -12,8 +12,9 @@ ghost use Rattle.tree_choice.specs.Floors.{AreKnown};
 ghost use Rattle.tree_nodes.specs.Placed.{IsPlaced, IsPlacedList, HasNotes};
 ghost use Rattle.tree_nodes.specs.Growth.{IsListStep, HasPlacedLists};
 
+use crate::kept::{empty_list, keep};
 use crate::orders::{LONG, gathered, order_of, parted_order};
-use crate::parting::{Sides, part_list};
+use crate::parting::{Sides, part_list, part_noted};
 use crate::placed::PlacedPieces;
 use lump_records::Bounds;
 use std::alloc::{AllocError, Global};
@@ -34,10 +35,10 @@ const EVERYWHERE: Bounds = Bounds {
     right: i16::MAX,
 };
 
-/// What a list of pieces becomes: a leaf, or a partition and the two lists of the parts.
+/// What a list of pieces becomes: a leaf, with its rounded ends, or a partition and the two lists of the parts.
 #[derive(Drop)]
 pub(crate) enum Step {
-    Leaf(Vec<Piece>),
+    Leaf(EndedList),
     Parts {
         partition: Piece,
         right: PlacedPieces,
@@ -100,8 +101,9 @@ fn placed_part(
     }
 }
 
-// The parts of a list on the two sides of a partition, with their orders.
-fn part_placed(
+// The same as `part_placed`, where many parts lie on a side. It stands alone, since most lists are short.
+#[inline(never)]
+fn part_long(
     alloc: Global,
     lines: &Lines,
     partition: &Piece,
@@ -129,14 +131,51 @@ fn part_placed(
         left,
         right_notes,
         left_notes,
-    } = part_list(alloc, lines, partition, choice, list)?;
+    } = part_noted(alloc, lines, partition, choice, list)?;
     let right = placed_part(alloc, lines, pieces, order, floors, right, right_notes)?;
     let left = placed_part(alloc, lines, pieces, order, floors, left, left_notes)?;
     Ok(PlacedSides { right, left })
 }
 
+// The parts of a list on the two sides of a partition, with their orders. Short lists take the room of kept ones.
+fn part_placed(
+    alloc: Global,
+    lines: &Lines,
+    partition: &Piece,
+    choice: Choice,
+    list: &EndedPieces,
+    order: &Option<Vec<u32>>,
+    floors: &[Floor],
+    kept: &mut Vec<EndedList>,
+) -> Result<PlacedSides, AllocError>
+    requires partition { IsPiece lines.now partition.now }
+    requires list { AreEnded lines.now list.now }
+    requires few { length list.now.pieces.now < 2 ^ 31 }
+    requires floors { AreKnown lines.now list.now.pieces.now floors.now }
+    requires order { IfSome order.now (IsPlaced list.now.pieces.now) }
+    ensures right { IfOk result (λ sides. sides.right.pieces.items
+        ≡ right_parts lines.now partition.now list.now.pieces.now) }
+    ensures left { IfOk result (λ sides. sides.left.pieces.items
+        ≡ left_parts lines.now partition.now list.now.pieces.now) }
+    ensures right_listed { IfOk result (λ sides. IsPlacedList lines.now sides.right) }
+    ensures left_listed { IfOk result (λ sides. IsPlacedList lines.now sides.left) }
+{
+    if choice.right.max(choice.left) as usize > LONG {
+        return part_long(alloc, lines, partition, choice, list, order, floors);
+    }
+    lines.are_drawn();
+    let mut right = empty_list(alloc, choice.right as usize, kept)?;
+    let mut left = empty_list(alloc, choice.left as usize, kept)?;
+    part_list(lines, partition, list, &mut right, &mut left)?;
+    Ok(PlacedSides {
+        right: PlacedPieces::alone(alloc, right),
+        left: PlacedPieces::alone(alloc, left),
+    })
+}
+
 // The best candidate of a list that has an order by places, in that order. The pieces are gathered in it for the choice
 // alone, so that they take no memory while the list is divided.
+#[inline(never)]
 fn choice_by_place(
     alloc: Global,
     lines: &Lines,
@@ -208,13 +247,15 @@ fn choice_of(
     }
 }
 
-/// What a list of pieces becomes: a leaf if no piece can be chosen, else the parts by the best piece.
+/// What a list of pieces becomes: a leaf if no piece can be chosen, else the parts by the best piece. Lists that are
+/// done with are kept for their room, and short parts take it.
 pub(crate) fn step_in(
     alloc: Global,
     lines: &Lines,
     list: PlacedPieces,
     used: &[bool],
     straight: &mut StraightLines,
+    kept: &mut Vec<EndedList>,
 ) -> Result<Step, AllocError>
     requires placed { IsPlacedList lines.now list }
     requires known { length used.now ≡ length lines.now }
@@ -229,20 +270,22 @@ pub(crate) fn step_in(
         order,
         mut floors,
     } = list;
-    let slices = EndedPieces {
-        pieces: &pieces,
-        firsts: &firsts,
-        lasts: &lasts,
+    let list = EndedList {
+        pieces,
+        firsts,
+        lasts,
     };
-    let order = order_of(alloc, lines, &pieces, order)?;
+    let slices = list.as_slices();
+    let order = order_of(alloc, lines, &list.pieces, order)?;
     let choice = match choice_of(alloc, lines, &slices, &order, used, straight, &mut floors)? {
-        None => return Ok(Step::Leaf(pieces)),
+        None => return Ok(Step::Leaf(list)),
         Some(choice) => choice,
     };
-    let partition = pieces[choice.at as usize];
+    let partition = list.pieces[choice.at as usize];
     let PlacedSides { right, left } = part_placed(
-        alloc, lines, &partition, choice, &slices, &order, &floors,
+        alloc, lines, &partition, choice, &slices, &order, &floors, kept,
     )?;
+    keep(list, kept);
     Ok(Step::Parts {
         partition,
         right,

@@ -6,8 +6,8 @@ use Rattle.tree_nodes.proofs.parting.part_list.Given as goal
 -- what is listed with its ends, and what the pieces from here on will add
 abbrev pub invariant-loop-n : goal.invariant-loop-n
 invariant-loop-n l = record {
-  right : l.right.pieces.items ++ right_parts l.lines l.partition (drop l.n l.list.pieces.now) ≡ right_parts l.lines l.partition l.list.pieces.now;
-  left : l.left.pieces.items ++ left_parts l.lines l.partition (drop l.n l.list.pieces.now) ≡ left_parts l.lines l.partition l.list.pieces.now;
+  right : l.right.pieces.items ++ right_parts l.lines l.partition (drop l.n l.list.pieces.now) ≡ l.initial.right.pieces.items ++ right_parts l.lines l.partition l.list.pieces.now;
+  left : l.left.pieces.items ++ left_parts l.lines l.partition (drop l.n l.list.pieces.now) ≡ l.initial.left.pieces.items ++ left_parts l.lines l.partition l.list.pieces.now;
   right_ended : IsEnded l.lines l.right;
   left_ended : IsEnded l.lines l.left;
 }
