@@ -6,6 +6,7 @@ pub mod Drawing
 pub mod FormsOfAll
 pub mod Lines
 pub mod LowFaults
+pub mod NameFronts
 pub mod NumbersBack
 pub mod Numerals
 pub mod Padding

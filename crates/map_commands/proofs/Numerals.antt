@@ -116,7 +116,7 @@ neg-small : (v : ℕ) → FitsSigned w16 (neg_ℤ (pos v)) → v < 2 ^ 64
 neg-small zero f = omega arith
 neg-small (suc n) f = let h = f.sfits in omega (arith, h)
 
-zero-written : decimal 0 ≡ codes "0"
+pub zero-written : decimal 0 ≡ codes "0"
 unfolding digits
 zero-written = refl
 

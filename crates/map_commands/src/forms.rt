@@ -22,8 +22,8 @@ use map_tables::{Edit, Item};
 
 /// The greatest light of a sector.
 pub const GREATEST_LIGHT: i16 = 255;
-// In degrees.
-const GREATEST_ANGLE: i16 = 359;
+/// The greatest angle of a thing, in degrees.
+pub const GREATEST_ANGLE: i16 = 359;
 /// The greatest value of the flags, special and tag of a line.
 pub const GREATEST_FLAGS: u16 = 32767;
 

@@ -123,10 +123,10 @@ pub fn number_in(word: &[u8], low: i16, high: i16) -> Result<i16, CommandError>
     }
 }
 
-// The number of at most five digits in front of a text, and what stands behind the space after it, if there is one. The
-// loop has a fixed end, so that the compiler unrolls it.
+/// The number of at most five digits in front of a text, and what stands behind the space after it, if there is one.
+/// The loop has a fixed end, so that the compiler unrolls it.
 #[inline(always)]
-fn short_natural(text: &[u8]) -> Option<(u32, Option<&[u8]>)>
+pub fn short_natural(text: &[u8]) -> Option<(u32, Option<&[u8]>)>
     ensures word { IfSome result
         (λ found. parts text.now ≡ decimal found.0 ∷ parts_behind (option_copied found.1)) }
     ensures small { IfSome result (λ found. found.0 ≤ 99999) }
@@ -140,10 +140,13 @@ fn short_natural(text: &[u8]) -> Option<(u32, Option<&[u8]>)>
             return Some((value, None));
         }
         let byte = text[len];
-        if byte == b' ' {
-            return Some((value, Some(&text[len + 1..])));
+        if !is_digit(byte) {
+            if byte == b' ' {
+                return Some((value, Some(&text[len + 1..])));
+            }
+            return None;
         }
-        if !is_digit(byte) || value == 0 {
+        if value == 0 {
             return None;
         }
         value = 10 * value + u32::from(byte - b'0');

@@ -4,12 +4,12 @@ mod names;
 
 ghost use Rattle.std.specs.Prelude.{◌≡◌, ◌≤◌, ◌<◌, length, get_or, slice_get, MatchOption, Some, None, OnOk, IsOkUnless, IsErrOf};
 ghost use Rattle.map_tables.specs.Projects.{WellFormedProject, project_of, empty_project, body_len};
-ghost use Rattle.map_tables.specs.Tables.{Tables, count_of};
-ghost use Rattle.map_tables.specs.Outcomes.{Covers, EndsEdit, Spends, no_need, nothing, places};
-ghost use Rattle.map_tables.specs.Edits.{edit_need, edited};
-ghost use Rattle.map_tables.specs.Ranges.{IsEdit};
+ghost use Rattle.map_tables.specs.Tables.{Tables, count_of, kind_of_item};
+ghost use Rattle.map_tables.specs.Outcomes.{Covers, EndsEdit, Spends, no_need, nothing, one_of, places};
+ghost use Rattle.map_tables.specs.Edits.{added, edit_need, edited};
+ghost use Rattle.map_tables.specs.Ranges.{IsEdit, IsItem};
 
-use crate::edit::{Edit, Need};
+use crate::edit::{Edit, Item, Need};
 use crate::error::MapError;
 use crate::kind::Kind;
 use crate::map::Map;
@@ -168,5 +168,22 @@ impl Maps {
         ensures others { self.new.others ≡ self.old.others }
     {
         self.map.edit(edit)
+    }
+
+    /// Adds an item to the current map, and returns its number, as the `edit` does that adds it. It is compiled into
+    /// its callers, so that one that knows the item's kind pays for no choice among the kinds.
+    #[inline(always)]
+    pub fn add(&mut self, item: Item) -> Result<u32, MapError>
+        requires { IsItem item }
+        ensures edit { EndsEdit result
+            (added self.old.tables item) self.old.tables self.new.tables }
+        ensures promised { Covers self.old.spare (one_of (kind_of_item item))
+            → IsErrOf result MapError.OutOfMemory → ⊥ }
+        ensures spare { Spends (one_of (kind_of_item item)) self.old.spare self.new.spare }
+        ensures places { Covers self.old.spare (one_of (kind_of_item item))
+            → places self.new.tables self.new.spare ≡ places self.old.tables self.old.spare }
+        ensures others { self.new.others ≡ self.old.others }
+    {
+        self.map.add(item)
     }
 }

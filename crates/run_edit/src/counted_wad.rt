@@ -12,14 +12,14 @@ use crate::error::{EditorError, WriteError};
 use map_tables::Maps;
 use std::alloc::Global;
 use std::io::Write;
-use wad_build::{BuildCounts, build_counted};
+use wad_build::{BuildCounts, Unwritten, write_all};
 
-/// Builds the PWAD of all maps of a project, writes it, and returns its counts. Nothing is written before the whole
-/// PWAD is built.
+/// Builds all maps of a project, writes their PWAD lump by lump, and returns its counts. Nothing is written before each
+/// map is built; after that no memory is asked for.
 ///
 /// # Errors
 ///
-/// `Build` if `build_counted` refuses the maps, with nothing written; or `WriterFailed`.
+/// `Build` if `write_all` refuses the maps, with nothing written; or `WriterFailed`.
 pub fn write_wad<W: Write>(
     alloc: Global,
     maps: &Maps,
@@ -34,10 +34,10 @@ pub fn write_wad<W: Write>(
         → length m.lines ≡ 0
         → result ≡ Err (WriteError.Build (blamed NothingToBuild m.name)) }
 {
-    let built = build_counted(alloc, maps)?;
-    match writer.write_all(&built.bytes) {
-        Ok(()) => Ok(built.counts),
-        Err(_) => Err(WriteError::WriterFailed),
+    match write_all(alloc, maps, writer) {
+        Ok(counts) => Ok(counts),
+        Err(Unwritten::Build(unbuilt)) => Err(WriteError::Build(unbuilt)),
+        Err(Unwritten::Writer) => Err(WriteError::WriterFailed),
     }
 }
 

@@ -2,7 +2,6 @@
 ghost use Rattle.std.specs.Prelude.{◌≡◌};
 ghost use Rattle.run_edit.specs.declared.error.EditorError.TheVariants as editor;
 ghost use Rattle.run_edit.specs.declared.error.InspectError.TheVariants as inspect;
-ghost use Rattle.run_edit.specs.declared.error.WriteError.TheVariants.{Build};
 
 use lump_text::WriterFailed;
 use store_project::ProjectError;
@@ -110,14 +109,6 @@ impl WriteError {
             WriteError::Build(unbuilt) => unbuilt.error.code(),
             WriteError::WriterFailed => 38,
         }
-    }
-}
-
-impl From<Unbuilt> for WriteError {
-    ghost from_gives = { λ unbuilt e. e ≡ Build unbuilt };
-
-    fn from(unbuilt: Unbuilt) -> WriteError {
-        WriteError::Build(unbuilt)
     }
 }
 

@@ -36,6 +36,26 @@ pub struct Opened {
     pub journal: Journal,
 }
 
+// Applies a line of the journal by `parse` and `apply`. False if it is not a command that the maps accept.
+#[inline(never)]
+fn advance_by_parts(maps: &mut Maps, line: &[u8], cap: u32) -> Result<bool, AllocError>
+    requires { body_len (project_of maps.old) ≤ cap }
+    ensures led { result ≡ Ok true
+        → LeadsTo cap (project_of maps.old) line.now (project_of maps.new) }
+    ensures not_led { result ≡ Ok false → (new : _)
+        → ¬ LeadsTo cap (project_of maps.old) line.now new }
+    ensures fits { body_len (project_of maps.new) ≤ cap }
+{
+    let Ok(command) = parse(line) else {
+        return Ok(false);
+    };
+    match apply(maps, &command, cap) {
+        Ok(_) => Ok(true),
+        Err(CommandError::OutOfMemory) => Err(AllocError),
+        Err(_) => Ok(false),
+    }
+}
+
 // Applies a line of the journal. False if it is not a command that the maps accept.
 fn advance(maps: &mut Maps, line: &[u8], cap: u32) -> Result<bool, AllocError>
     requires { body_len (project_of maps.old) ≤ cap }
@@ -48,14 +68,7 @@ fn advance(maps: &mut Maps, line: &[u8], cap: u32) -> Result<bool, AllocError>
     if add_by(maps, line, cap) {
         return Ok(true);
     }
-    let Ok(command) = parse(line) else {
-        return Ok(false);
-    };
-    match apply(maps, &command, cap) {
-        Ok(_) => Ok(true),
-        Err(CommandError::OutOfMemory) => Err(AllocError),
-        Err(_) => Ok(false),
-    }
+    advance_by_parts(maps, line, cap)
 }
 
 // Applies the line behind a gate, if none was refused before it. The gate of the first refused line, if there is one.

@@ -5,6 +5,7 @@ pub mod Casts
 pub mod BlockSteps
 pub mod BoxLemmas
 pub mod OpenBlocks
+pub mod Joined
 pub mod Reordered
 pub mod Columns
 pub mod EndLemmas

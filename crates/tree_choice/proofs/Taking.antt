@@ -81,7 +81,7 @@ module _ (lines : List Edge) (ps : List Piece) (floors : List Floor) (part : Lis
 
 -- all pieces of the list are taken, and all of the part have a floor
 pub taken_all : (ps : List Piece) (floors : List Floor) (part : List Piece) (n : ℕ) (x : Exchange) → length ps ≤ n
-    → length part ≤ length x.floors.items → length x.lost.items ≤ 16 → length x.gained.items ≤ 16
+    → length part ≤ length x.floors.items → length x.lost.items ≤ 256 → length x.gained.items ≤ 256
     → ((lines : List Edge) → IsUnderWay lines ps floors part n x) → IsExchangeOf ps floors part x
 taken_all ps floors part n x all both lost gained u = record {
   exchanged =

@@ -17,7 +17,7 @@ pub record IsUnderWay (lines : List Edge) (ps : List Piece) (floors : List Floor
   pub lost : All (IsPiece lines) ps → All (IsPiece lines) x.lost.items
   pub gained : All (IsPiece lines) part → All (IsPiece lines) x.gained.items
 
--- the list is exchanged for the whole part by at most a block of pieces gone, and one of new ones
+-- the list is exchanged for the whole part by at most 256 pieces gone, and as many new ones
 pub record IsExchangeOf (ps : List Piece) (floors : List Floor) (part : List Piece) (x : Exchange) :
     Type 0 where
   pub exchanged : IsExchanged ps part x.lost.items x.gained.items
@@ -25,5 +25,5 @@ pub record IsExchangeOf (ps : List Piece) (floors : List Floor) (part : List Pie
       AreFloors lines ps part x.floors.items
   pub lost : (lines : List Edge) → All (IsPiece lines) ps → All (IsPiece lines) x.lost.items
   pub gained : (lines : List Edge) → All (IsPiece lines) part → All (IsPiece lines) x.gained.items
-  pub few_lost : length x.lost.items ≤ 16
-  pub few_gained : length x.gained.items ≤ 16
+  pub few_lost : length x.lost.items ≤ 256
+  pub few_gained : length x.gained.items ≤ 256

@@ -32,10 +32,16 @@ fn is_free_at(pieces: &[Piece], used: &[bool], place: usize) -> bool {
     }
 }
 
-// The place of a piece of an unused line of which the least is known. It is likely to be the choice, or close to it.
-fn least_known(pieces: &[Piece], used: &[bool], floors: &[Floor]) -> usize {
+// How many pieces a list has at least whose middle one is counted first, if nothing is known of them.
+const LONG: usize = 256;
+
+// The place of the piece that is counted first. It is the one of an unused line of which the least is known, which is
+// likely to be the choice, or close to it; in a long list of which nothing is known, the middle one. If there is
+// none, the place is behind the list.
+fn first_counted(pieces: &[Piece], used: &[bool], floors: &[Floor]) -> usize {
     let mut least = u64::MAX;
-    let mut place = pieces.len();
+    let len = pieces.len();
+    let mut place = if len < LONG { len } else { len / 2 };
     for (n, floor) in floors.iter().enumerate() {
         let cost = worth(*floor);
         if cost < least && is_free_at(pieces, used, n) {
@@ -46,8 +52,8 @@ fn least_known(pieces: &[Piece], used: &[bool], floors: &[Floor]) -> usize {
     place
 }
 
-/// A number that the choice costs less than: one more than the cost of the piece of which the least is known, or the
-/// greatest number if nothing is known.
+/// A number that the choice costs less than: one more than the cost of the piece that is counted first, or the greatest
+/// number if there is none.
 pub(crate) fn bound_of(
     lines: &Lines,
     pieces: &[Piece],
@@ -72,7 +78,7 @@ pub(crate) fn bound_of(
     ensures groups { straight.new.groups ≡ straight.old.groups }
     ensures room { length straight.new.noted.items ≡ length straight.old.noted.items }
 {
-    let at = least_known(pieces, used, floors);
+    let at = first_counted(pieces, used, floors);
     if at >= pieces.len() || used[pieces[at].line as usize] {
         return u64::MAX;
     }

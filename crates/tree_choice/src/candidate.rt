@@ -1,11 +1,13 @@
 //! A piece that is tried as partition, and the list that it is tried on.
 ghost use Rattle.std.specs.Prelude.{◌≡◌};
-ghost use Rattle.tree_pieces.specs.Pieces.{IsPiece, ends_of};
+ghost use Rattle.tree_pieces.specs.Local.{place_on};
+ghost use Rattle.tree_pieces.specs.Pieces.{IsPiece, edge_of, ends_of};
 ghost use Rattle.tree_pieces.specs.Division.{parts_of, parts_by};
 ghost use Rattle.tree_choice.specs.Candidates.{IsSighted};
 
 use crate::corner_columns::BoxColumns;
 use crate::margins::{Margins, margins_of, sides_of_place};
+use crate::whole_lines::side_of_line;
 use lump_records::{Bounds, Vertex};
 use tree_pieces::{Ends, Lines, Piece, Place, place_on};
 
@@ -63,7 +65,23 @@ impl<'a> Candidate<'a> {
         if first.left && last.left {
             return Place::Left;
         }
+        self.exact_place(piece)
+    }
+
+    // The place of a piece by the side of its whole line if that has one, else by its exact ends.
+    #[inline(never)]
+    fn exact_place(&self, piece: &Piece) -> Place
+        requires candidate { IsSighted self.now }
+        requires piece { IsPiece self.now.lines.now piece.now }
+        ensures { result
+            ≡ place_on self.now.margins.ray (edge_of self.now.lines.now piece.now) piece.now }
+    {
+        let ray = self.margins.ray;
         let edge = self.lines.line_of(piece);
-        place_on(margins.ray, edge, piece)
+        match side_of_line(ray, edge, piece) {
+            None => place_on(ray, edge, piece),
+            Some(true) => Place::Right,
+            Some(false) => Place::Left,
+        }
     }
 }

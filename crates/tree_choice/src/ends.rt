@@ -1,11 +1,11 @@
 //! Pieces with their rounded ends beside them.
-ghost use Rattle.std.specs.Prelude.{◌≡◌, ◌++◌, ◌∷◌, [], All, IfOk, OnOk};
+ghost use Rattle.std.specs.Prelude.{◌≡◌, All, IfOk};
 ghost use Rattle.tree_pieces.specs.Pieces.{IsPiece};
 ghost use Rattle.tree_choice.specs.Columns.{IsEnded};
 
 use lump_records::Vertex;
 use std::alloc::{AllocError, Global};
-use tree_pieces::{Ends, Lines, Piece};
+use tree_pieces::{Lines, Piece};
 
 /// A list of pieces with their rounded ends: the first ends in one column and the last ones in another, so that a
 /// machine can test several pieces at once. A piece that a partition leaves whole keeps its ends.
@@ -25,22 +25,6 @@ pub struct EndedPieces<'a> {
 }
 
 impl EndedList {
-    /// An empty list with room for so many pieces.
-    pub fn with_room(alloc: Global, count: usize) -> Result<EndedList, AllocError>
-        ensures pieces { IfOk result (λ list. list.pieces.items ≡ []) }
-        ensures firsts { IfOk result (λ list. list.firsts.items ≡ []) }
-        ensures lasts { IfOk result (λ list. list.lasts.items ≡ []) }
-    {
-        let pieces = Vec::with_capacity(alloc, count)?;
-        let firsts = Vec::with_capacity(alloc, count)?;
-        let lasts = Vec::with_capacity(alloc, count)?;
-        Ok(EndedList {
-            pieces,
-            firsts,
-            lasts,
-        })
-    }
-
     /// These pieces, each with its rounded ends.
     pub fn of(alloc: Global, lines: &Lines, pieces: Vec<Piece>) -> Result<EndedList, AllocError>
         requires { All (IsPiece lines.now) pieces.items }
@@ -59,22 +43,6 @@ impl EndedList {
             firsts,
             lasts,
         })
-    }
-
-    /// Appends a piece with its rounded ends.
-    #[inline]
-    pub fn push(&mut self, piece: &Piece, ends: Ends) -> Result<(), AllocError>
-        ensures pieces { OnOk result
-            (self.new.pieces.items ≡ self.old.pieces.items ++ piece.now ∷ []) }
-        ensures firsts { OnOk result
-            (self.new.firsts.items ≡ self.old.firsts.items ++ ends.first ∷ []) }
-        ensures lasts { OnOk result
-            (self.new.lasts.items ≡ self.old.lasts.items ++ ends.last ∷ []) }
-    {
-        self.pieces.push(*piece)?;
-        self.firsts.push(ends.first)?;
-        self.lasts.push(ends.last)?;
-        Ok(())
     }
 
     /// The list as slices.

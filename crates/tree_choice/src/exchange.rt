@@ -8,11 +8,10 @@ ghost use Rattle.tree_choice.specs.Candidates.{AreEnded};
 ghost use Rattle.tree_choice.specs.Floors.{IsFloor, AreFloors, AreKnown, IsExchanged};
 ghost use Rattle.tree_choice.specs.Exchanges.{IsUnderWay, IsExchangeOf};
 
-use crate::block_boxes::BLOCK;
 use crate::candidate::Candidate;
 use crate::ends::{EndedList, EndedPieces};
 use crate::floors::{Floor, floor_at};
-use crate::walk::count_list;
+use crate::walk::count_blocks;
 use std::alloc::{AllocError, Global};
 use tree_pieces::{Frac, Lines, Piece};
 
@@ -76,7 +75,10 @@ fn take_next(
     Ok(())
 }
 
-// What a list loses and gains as it becomes this part, or None if that is more than a block of pieces.
+// How many pieces a list may lose or gain at most for what is known of it to be carried to a part.
+const MOST: usize = 256;
+
+// What a list loses and gains as it becomes this part, or None if either is more than `MOST` pieces.
 fn exchange_of(
     alloc: Global,
     pieces: &[Piece],
@@ -93,13 +95,13 @@ fn exchange_of(
     };
     for n in 0..pieces.len() {
         take_next(pieces, n, floors, part, &mut exchange)?;
-        if exchange.lost.len() > BLOCK {
+        if exchange.lost.len() > MOST {
             return Ok(None);
         }
     }
     if exchange.floors.len() < part.len()
-        || exchange.gained.len() > BLOCK
-        || exchange.lost.len() > BLOCK
+        || exchange.gained.len() > MOST
+        || exchange.lost.len() > MOST
     {
         return Ok(None);
     }
@@ -117,8 +119,8 @@ fn known_in_part(
     requires piece { IsPiece lines.now piece.now }
     requires gone { AreEnded lines.now gone.now }
     requires new { AreEnded lines.now new.now }
-    requires few_gone { length gone.now.pieces.now ≤ 16 }
-    requires few_new { length new.now.pieces.now ≤ 16 }
+    requires few_gone { length gone.now.pieces.now ≤ 256 }
+    requires few_new { length new.now.pieces.now ≤ 256 }
     ensures { (ps part : List Piece) →
         IsExchanged ps part gone.now.pieces.now new.now.pieces.now →
         IsFloor lines.now ps piece.now known → IsFloor lines.now part piece.now result }
@@ -127,13 +129,7 @@ fn known_in_part(
         return Floor::AtLeast(0);
     }
     let by = Candidate::of(lines, piece);
-    match count_list(&by, gone, u64::MAX) {
-        None => Floor::AtLeast(0),
-        Some(lost) => match count_list(&by, new, u64::MAX) {
-            None => Floor::AtLeast(0),
-            Some(gained) => known.lowered(lost, gained),
-        },
-    }
+    known.lowered(count_blocks(&by, gone), count_blocks(&by, new))
 }
 
 // What is known of all pieces of a part as partitions of it, by what is known of them in the list.
@@ -148,8 +144,8 @@ fn known_in_all(
     requires part { All (IsPiece lines.now) part.now }
     requires gone { AreEnded lines.now gone.now }
     requires new { AreEnded lines.now new.now }
-    requires few_gone { length gone.now.pieces.now ≤ 16 }
-    requires few_new { length new.now.pieces.now ≤ 16 }
+    requires few_gone { length gone.now.pieces.now ≤ 256 }
+    requires few_new { length new.now.pieces.now ≤ 256 }
     ensures { IfOk result (λ all. (ps : List Piece) →
         IsExchanged ps part.now gone.now.pieces.now new.now.pieces.now →
         AreFloors lines.now ps part.now floors.now →
@@ -164,7 +160,7 @@ fn known_in_all(
 }
 
 /// What is known of the pieces of a part of a list as partitions of it, by what `floors` has of them as partitions of
-/// the list. If the part differs from the list by more than a block of pieces, nothing is remembered.
+/// the list. If the list loses or gains more than 256 pieces, nothing is remembered.
 pub fn floors_of_part(
     alloc: Global,
     lines: &Lines,

@@ -18,6 +18,7 @@ mod sorting;
 mod straight;
 mod strips;
 mod walk;
+mod whole_lines;
 
 pub use block_boxes::blocks_of;
 pub use candidate::Candidate;

@@ -1,8 +1,6 @@
 //! The counts of a list: blocks whole on one side by their boxes, the pieces of open ones by their rounded ends.
-ghost use Rattle.std.specs.Prelude.{◌≡◌, ◌≤◌, ◌<◌, ◌^◌, ◌&&◌, ◌||◌, if◌then◌else◌, ◌∷◌, [], true, false, pos, ◌*ℤ◌, int_lt, length, take, All};
-ghost use Rattle.tree_pieces.specs.Local.{IsSideValue};
+ghost use Rattle.std.specs.Prelude.{◌≡◌, ◌≤◌, ◌<◌, ◌^◌, ◌&&◌, ◌||◌, if◌then◌else◌, ◌∷◌, [], length, take, All, IfSome};
 ghost use Rattle.tree_pieces.specs.Pieces.{IsPiece, ends_of};
-ghost use Rattle.tree_pieces.specs.Division.{place_by};
 ghost use Rattle.tree_choice.specs.Candidates.{IsSighted, AreCountsBy, AreEnded, AreNoted};
 ghost use Rattle.tree_choice.specs.Counts.{AreCountsBelow};
 ghost use Rattle.tree_choice.specs.Sights.{IsNormal};
@@ -15,8 +13,9 @@ use crate::counts::Counts;
 use crate::ends::EndedPieces;
 use crate::margins::{Normal, PlaceSides, sides_of_place};
 use crate::sorting::{Sorted, sort_all};
-use lump_records::{Vertex, product};
-use tree_pieces::{Ends, Lines, Piece, Place, divide_on, dot_of, place_on, ray_of, value_at};
+use crate::whole_lines::side_of_line;
+use lump_records::Vertex;
+use tree_pieces::{Ends, Lines, Piece, Place, divide_on, place_on};
 
 // The counts of a piece by the sides of its two ends; zero if they leave it open. All is done in numbers of 32 bits, as
 // the sums over several pieces are.
@@ -58,6 +57,7 @@ fn count_clear(by: &Candidate, normal: Normal, piece: &Piece, ends: Ends) -> Cou
 
 // The counts of those pieces of a short list that their rounded ends decide; the others are flagged as open. There is
 // no branch, so that a machine tests several pieces at once.
+#[inline(always)]
 fn count_clear_ones(by: &Candidate, list: &EndedPieces, flags: &mut [bool]) -> Counts
     requires candidate { IsSighted by.now }
     requires list { AreEnded by.now.lines.now list.now }
@@ -91,38 +91,6 @@ fn count_clear_ones(by: &Candidate, list: &EndedPieces, flags: &mut [bool]) -> C
     counts
 }
 
-// Whether the ends of a line lie on two sides of a ray, by their side values. Their product needs one test, which is
-// easy to predict; their signs would need two.
-fn are_apart(first: i64, last: i64) -> bool
-    requires first { IsSideValue first }
-    requires last { IsSideValue last }
-    ensures { result ≡ int_lt (first *ℤ last) (pos 0) }
-{
-    product(first, last) < 0
-}
-
-// The sum of the side values of a line's ends, or its direction if the sum is 0.
-fn sign_of(sum: i64, direction: i64) -> i64
-    ensures zero { sum ≡ pos 0 → result ≡ direction }
-    ensures other { (sum ≡ pos 0 → ⊥) → result ≡ sum }
-{
-    if sum == 0 { direction } else { sum }
-}
-
-// Whether a line whose ends don't lie on two sides of a ray lies on its right, else on its left: by the side values of
-// its ends, or by its direction if both are 0.
-fn lies_right(first: i64, last: i64, direction: i64) -> bool
-    requires first { IsSideValue first }
-    requires last { IsSideValue last }
-    requires together { int_lt (first *ℤ last) (pos 0) ≡ false }
-    ensures right { result ≡ true → place_by first last direction ≡ Place.Right }
-    ensures left { result ≡ false → place_by first last direction ≡ Place.Left }
-{
-    let sum = first + last;
-    let sign = sign_of(sum, direction);
-    0 < sign
-}
-
 // The counts of one piece by its exact place. Only a piece across the partition is divided.
 #[inline(never)]
 fn count_exactly(by: &Candidate, piece: &Piece) -> Counts
@@ -148,20 +116,14 @@ fn count_piece(by: &Candidate, piece: &Piece) -> Counts
     requires piece { IsPiece by.now.lines.now piece.now }
     ensures { AreCountsBy by.now (piece.now ∷ []) result }
 {
-    let ray = by.margins.ray;
     let edge = by.lines.line_of(piece);
-    let first = value_at(ray, edge.v1);
-    let last = value_at(ray, edge.v2);
-    if are_apart(first, last) {
-        return count_exactly(by, piece);
-    }
-    let own = ray_of(edge, piece.side);
-    let direction = dot_of(ray, own);
-    let right = lies_right(first, last, direction);
-    Counts {
-        splits: 0,
-        right: right as u32,
-        left: !right as u32,
+    match side_of_line(by.margins.ray, edge, piece) {
+        None => count_exactly(by, piece),
+        Some(right) => Counts {
+            splits: 0,
+            right: right as u32,
+            left: !right as u32,
+        },
     }
 }
 
@@ -186,6 +148,7 @@ fn note_open(pieces: &[Piece], flags: &[bool], places: &mut [u8]) -> usize
 }
 
 // The counts of a short list, after those of all pieces but the ones at these places.
+#[inline(never)]
 fn count_open_ones(by: &Candidate, pieces: &[Piece], places: &[u8], clear: Counts) -> Counts
     requires candidate { IsSighted by.now }
     requires pieces { All (IsPiece by.now.lines.now) pieces.now }
@@ -204,8 +167,43 @@ fn count_open_ones(by: &Candidate, pieces: &[Piece], places: &[u8], clear: Count
     counts
 }
 
-// The counts of a block: first of the pieces that their rounded ends decide, then of the others. It is None if the
-// first ones already make the cost reach the limit.
+// The counts of a block after those of the pieces that their rounded ends decide: the flagged ones are counted too.
+#[inline(always)]
+fn count_flagged(by: &Candidate, pieces: &[Piece], flags: &[bool], clear: Counts) -> Counts
+    requires candidate { IsSighted by.now }
+    requires pieces { All (IsPiece by.now.lines.now) pieces.now }
+    requires few { length pieces.now ≤ 16 }
+    requires same { length flags.now ≡ length pieces.now }
+    requires clear { AreCountsBut by.now.lines.now by.now.piece.now pieces.now
+        (flagged flags.now pieces.now) clear }
+    ensures { AreCountsBy by.now pieces.now result }
+{
+    let mut places = [0; BLOCK];
+    let count = note_open(pieces, flags, &mut places);
+    count_open_ones(by, pieces, &places[..count], clear)
+}
+
+// The counts of a block: first of the pieces that their rounded ends decide, then of the others.
+#[inline(never)]
+fn count_block(by: &Candidate, list: &EndedPieces) -> Counts
+    requires candidate { IsSighted by.now }
+    requires list { AreEnded by.now.lines.now list.now }
+    requires few { length list.now.pieces.now ≤ 16 }
+    ensures { AreCountsBy by.now list.now.pieces.now result }
+{
+    let pieces = list.pieces;
+    let mut all_flags = [false; BLOCK];
+    let flags = &mut all_flags[..pieces.len()];
+    let clear = count_clear_ones(by, list, flags);
+    let all = pieces.len() as u32 + clear.splits;
+    if all == clear.right + clear.left {
+        return clear;
+    }
+    count_flagged(by, pieces, flags, clear)
+}
+
+// The counts of a list of one block, as those of a block. It is None if the pieces that their rounded ends decide
+// already make the cost reach the limit.
 pub(crate) fn count_list(by: &Candidate, list: &EndedPieces, limit: u64) -> Option<Counts>
     requires candidate { IsSighted by.now }
     requires list { AreEnded by.now.lines.now list.now }
@@ -224,9 +222,30 @@ pub(crate) fn count_list(by: &Candidate, list: &EndedPieces, limit: u64) -> Opti
     if rest == 0 {
         return Some(clear);
     }
-    let mut places = [0; BLOCK];
-    let count = note_open(pieces, flags, &mut places);
-    Some(count_open_ones(by, pieces, &places[..count], clear))
+    Some(count_flagged(by, pieces, flags, clear))
+}
+
+/// The counts of a list of a few blocks, block by block.
+pub(crate) fn count_blocks(by: &Candidate, list: &EndedPieces) -> Counts
+    requires candidate { IsSighted by.now }
+    requires list { AreEnded by.now.lines.now list.now }
+    requires few { length list.now.pieces.now ≤ 256 }
+    ensures { AreCountsBy by.now list.now.pieces.now result }
+{
+    let pieces = list.pieces;
+    let mut counts = Counts::NONE;
+    let mut from = 0;
+    while from < pieces.len() {
+        let end = (from + BLOCK).min(pieces.len());
+        let block = EndedPieces {
+            pieces: &pieces[from..end],
+            firsts: &list.firsts[from..end],
+            lasts: &list.lasts[from..end],
+        };
+        counts = counts.plus(count_block(by, &block));
+        from = end;
+    }
+    counts
 }
 
 // The counts of a list whose blocks are sorted, open block by open block, or None as soon as the cost is known to reach
@@ -265,11 +284,7 @@ fn count_open(
             firsts: &firsts[from..end],
             lasts: &lasts[from..end],
         };
-        let more = match count_list(by, &block, u64::MAX) {
-            None => return None,
-            Some(more) => more,
-        };
-        counts = counts.plus(more);
+        counts = counts.plus(count_block(by, &block));
         rest -= end - from;
         if limit <= counts.least_cost(rest as u32) {
             return None;

@@ -17,12 +17,10 @@ use Rattle.tree_pieces.proofs.Choice.{one_tree, one_best}
 use Rattle.tree_pieces.proofs.Trees.{right_reached, left_reached}
 use Rattle.tree_nodes.specs.InRange.{greatest_number}
 use Rattle.tree_nodes.specs.TreeLists.{leaf_count, branch_count, child_of, IsEndOf, HasNodes}
-use Rattle.tree_choice.specs.declared.ends.EndedList.{EndedList}
-use Rattle.tree_nodes.specs.Placed.{IsPlacedList}
-use Rattle.tree_nodes.specs.Growth.{Lists, IsListStep, HasPlacedLists, IsGrown, IsRefused, IsDivision, IsLeafPut, IsLeafRefused, IsNodePut}
+use Rattle.tree_nodes.specs.Placed.{Waiting}
+use Rattle.tree_nodes.specs.Growth.{Lists, IsListStep, IsLeafStep, IsPartedStep, IsGrown, IsRefused, IsDivision, IsLeafPut, IsLeafRefused, IsNodePut}
 use Rattle.tree_nodes.specs.declared.error.TreeError.{TreeError}
 use Rattle.tree_nodes.specs.declared.error.TreeError.TheVariants.{OutOfMemory, NothingToBuild, TooManyVertices, TooManySegs, TooManySubsectors, TooDeep}
-use Rattle.tree_nodes.specs.declared.placed.PlacedPieces.{PlacedPieces}
 use Rattle.tree_nodes.specs.declared.growth.Child.{Child}
 use Rattle.tree_nodes.specs.declared.step.Step.{Step}
 use Rattle.tree_nodes.specs.declared.step.Step.TheVariants.{Leaf as StepLeaf, Parts as StepParts}
@@ -238,16 +236,13 @@ module _ (lines : List Edge) (ps : List Piece) (used : List Bool) (p : Piece) (r
           }
 
 -- ---- what a step says
-pub division_of : (lines : List Edge) (ps : List Piece) (used : List Bool) (s : Step) (p : Piece)
-    (right left : PlacedPieces) → s ≡ StepParts p right left → IsListStep lines ps used s
-    → IsDivision lines ps used p right.pieces.items left.pieces.items
-division_of lines ps used s p right left f h = subst (IsListStep lines ps used) f h
+pub parted_of : (lines : List Edge) (ps : List Piece) (used : List Bool) (old new : List Waiting) (s : Step) (p : Piece) → s ≡ StepParts p
+    → IsListStep lines ps used old new s → IsPartedStep lines ps used old new p
+parted_of lines ps used old new s p f h = subst (IsListStep lines ps used old new) f h
 
-pub lists_are : (lines : List Edge) (s : Step) (p : Piece) (right left : PlacedPieces) → s ≡ StepParts p right left → HasPlacedLists lines s → IsPlacedList lines right × IsPlacedList lines left
-lists_are lines s p right left f h = subst (HasPlacedLists lines) f h
-
-pub leaf_of : (lines : List Edge) (ps : List Piece) (used : List Bool) (s : Step) (leaf : EndedList) → s ≡ StepLeaf leaf → IsListStep lines ps used s → (leaf.pieces.items ≡ ps) × HasNoChoice lines ps used
-leaf_of lines ps used s leaf f h = subst (IsListStep lines ps used) f h
+pub leaf_of : (lines : List Edge) (ps : List Piece) (used : List Bool) (old new : List Waiting) (s : Step) (leaf : Waiting) → s ≡ StepLeaf leaf
+    → IsListStep lines ps used old new s → IsLeafStep lines ps used old new leaf
+leaf_of lines ps used old new s leaf f h = subst (IsListStep lines ps used old new) f h
 
 -- ---- what a result says
 pub ok_by : {T E : Type 0} (r : Result T E) (P Q : T → Type 0) → ((x : T) → P x → Q x) → IfOk r P → IfOk r Q

@@ -1,6 +1,6 @@
 -- Rounded ends beside pieces: a piece that isn't split keeps its own, and one more part is put down with its ends.
-use Rattle.std.proofs.Common.{◌≡◌, refl, sym, ap, ◌∙◌, subst, ℕ, ◌+◌, ◌<◌, Bool, true, false, ◌&&◌, List, [], ◌∷◌, ◌++◌, append_assoc, length, get_or, drop, Option, Some, None, Result, Ok, Err, add-one, drop-cons}
-use Rattle.std.specs.Prelude.{pos, int_lt, filter_map, option_to_list, is_some, IfSome, OnOk, if◌then◌else◌}
+use Rattle.std.proofs.Common.{◌≡◌, refl, sym, ap, ◌∙◌, subst, ℕ, ◌+◌, ◌<◌, Bool, true, false, ◌&&◌, List, [], ◌∷◌, ◌++◌, append_assoc, length, get_or, drop, Option, Some, None, add-one, drop-cons}
+use Rattle.std.specs.Prelude.{pos, int_lt, filter_map, option_to_list, is_some, IfSome, if◌then◌else◌}
 use Rattle.std.specs.List.{cons_option}
 use Rattle.lump_records.specs.declared.records.Vertex.{Vertex}
 use Rattle.tree_pieces.specs.declared.edge.Edge.{Edge}
@@ -122,13 +122,9 @@ gained {X} {Y} {all} f xs n d old new h e k =
     front (Some y) ys = refl
 
 -- a piece goes to one side whole, and the other one gains nothing
-pub nothing_more : {X E : Type 0} (r : Result X E) (xs : List Piece) → OnOk r (xs ≡ xs ++ [])
-nothing_more (Ok x) xs = same xs
-  where
-    same : (ys : List Piece) → ys ≡ ys ++ []
-    same [] = refl
-    same (y ∷ ys) = ap (λ (l : List Piece). y ∷ l) (same ys)
-nothing_more (Err e) xs = tt
+pub nothing_more : (xs : List Piece) → xs ≡ xs ++ []
+nothing_more [] = refl
+nothing_more (x ∷ xs) = ap (λ (l : List Piece). x ∷ l) (nothing_more xs)
 
 -- one more piece is put down with its ends
 pub ends_more : (lines : List Edge) (list list' : EndedList) (q : Piece) (e : Ends) → IsEnded lines list → e ≡ ends_of lines q
@@ -142,9 +138,3 @@ ends_more lines list list' q e h own p f l =
       lasts_are = l ∙ ap (λ (x : Ends). list.lasts.items ++ x.last ∷ []) own ∙ ap (λ (xs : List Vertex). xs ++ last_end lines q ∷ []) h.lasts_are
           ∙ sym (map-append (last_end lines) ps (q ∷ [])) ∙ ap (map (last_end lines)) (sym p);
     }
-
-pub pushed_ended : {X E : Type 0} (lines : List Edge) (r : Result X E) (list list' : EndedList) (q : Piece) (e : Ends) → IsEnded lines list → e ≡ ends_of lines q
-    → OnOk r (list'.pieces.items ≡ list.pieces.items ++ q ∷ []) → OnOk r (list'.firsts.items ≡ list.firsts.items ++ e.first ∷ [])
-    → OnOk r (list'.lasts.items ≡ list.lasts.items ++ e.last ∷ []) → OnOk r (IsEnded lines list')
-pushed_ended lines (Ok x) list list' q e h own p f l = ends_more lines list list' q e h own p f l
-pushed_ended lines (Err x) list list' q e h own p f l = tt

@@ -19,6 +19,7 @@ pub mod NodeLemmas
 pub mod Building
 pub mod RangeLemmas
 pub mod OrderLemmas
+pub mod Room
 pub mod Everywhere
 pub mod OneField
 pub mod OneNumbering

@@ -11,10 +11,9 @@ use Rattle.tree_pieces.specs.Tree.{IsReached, HasNoChoice}
 use Rattle.tree_nodes.specs.declared.error.TreeError.{TreeError}
 use Rattle.tree_nodes.specs.declared.error.TreeError.TheVariants.{TooDeep}
 use Rattle.tree_nodes.specs.declared.growth.Child.{Child}
-use Rattle.tree_nodes.specs.declared.placed.PlacedPieces.{PlacedPieces}
 use Rattle.tree_nodes.specs.declared.open_tree.OpenTree.{OpenTree}
-use Rattle.tree_nodes.specs.Placed.{IsPlacedList}
-use Rattle.tree_nodes.specs.Growth.{Lists, lists_of, IsGrown, IsRefused, IsDivision, IsLeafPut, IsLeafRefused}
+use Rattle.tree_nodes.specs.Placed.{Waiting}
+use Rattle.tree_nodes.specs.Growth.{Lists, lists_of, IsGrown, IsRefused, IsDivision, IsPartedStep, IsLeafPut, IsLeafRefused}
 use Rattle.tree_nodes.specs.OpenTree.{IsDivisible, HasNext, IsChildOf, HasGrown, IsNextRefused, IsLeafEnded, IsNodeOpened, IsNodeOpen, HasNodeOpen, CanClose, HasNodeClosed}
 use Rattle.tree_nodes.proofs.Growing.{leaf_grown, leaf_refused, deep_here, partition_is, right_side_reached, left_side_reached, right_side_some, left_side_some, right_side_few, left_side_few, line_free, refused_right, refused_left, fewer_mid, nodes_few, node_grown, restored}
 
@@ -26,61 +25,69 @@ last_same (a ∷ xs) [] x y e = let l = ap length e in let b = length-append xs 
 last_same (a ∷ xs) (b ∷ ys) x y e = let t : xs ++ x ∷ [] ≡ ys ++ y ∷ [] = cc in let h : a ≡ b = cc in let i = last_same xs ys x y t in (cc, i.1)
 
 -- ---- the next list
-pub divisible : (lines : List Edge) (tree : OpenTree) → HasNext lines tree → (rest : List PlacedPieces) (list : PlacedPieces) → tree.lists.items ≡ rest ++ list ∷ [] → IsDivisible lines tree list
+pub divisible : (lines : List Edge) (tree : OpenTree) → HasNext lines tree → (rest : List Waiting) (list : Waiting) → tree.lists.items ≡ rest ++ list ∷ [] → IsDivisible lines tree list
 divisible lines tree n rest list e = let s = last_same n.rest rest n.list list (sym n.lists ∙ e) in subst (IsDivisible lines tree) s.1 n.divisible
 
--- a tree whose last list was taken
-pub record IsTaken (old mid : OpenTree) (before : List PlacedPieces) : Type 0 where
-  pub lists : mid.lists.items ≡ before
+-- a tree whose last list was taken: but for the lists it is the same
+pub record IsTaken (old mid : OpenTree) : Type 0 where
   pub partitions : mid.partitions.items ≡ old.partitions.items
   pub children : mid.children.items ≡ old.children.items
   pub used : mid.used.items ≡ old.used.items
   pub grown : lists_of mid.grown ≡ lists_of old.grown
 
-module _ (lines : List Edge) (room : ℕ) (old mid : OpenTree) (before : List PlacedPieces) (first : PlacedPieces) (is : old.lists.items ≡ before ++ first ∷ []) (taken : IsTaken old mid before) where
-  next_refused : (e : TreeError) → IsRefused lines first.pieces.items old.used.items room (lists_of old.grown) e → IsNextRefused lines room old e
-  next_refused e h rest list f = let s = last_same before rest first list (sym is ∙ f) in subst (λ (l : PlacedPieces). IsRefused lines l.pieces.items old.used.items room (lists_of old.grown) e) s.1 h
+module _ (lines : List Edge) (room : ℕ) (old mid : OpenTree) (before : List Waiting) (first : Waiting) (is : old.lists.items ≡ before ++ first ∷ []) (taken : IsTaken old mid) where
+  next_refused : (e : TreeError) → IsRefused lines first.value.ended.pieces.items old.used.items room (lists_of old.grown) e → IsNextRefused lines room old e
+  next_refused e h rest list f = let s = last_same before rest first list (sym is ∙ f) in subst (λ (l : Waiting). IsRefused lines l.value.ended.pieces.items old.used.items room (lists_of old.grown) e) s.1 h
 
   -- a leaf
-  module _ (leaf : List Piece) (whole : leaf ≡ first.pieces.items) (none : HasNoChoice lines first.pieces.items old.used.items) where
+  module _ (leaf : List Piece) (whole : leaf ≡ first.value.ended.pieces.items) (none : HasNoChoice lines first.value.ended.pieces.items old.used.items) where
     pub leaf_next_refused : (e : TreeError) → IsLeafRefused leaf (lists_of mid.grown) e → IsNextRefused lines room old e
-    leaf_next_refused e h = next_refused e (leaf_refused lines first.pieces.items old.used.items none room (lists_of old.grown) e
-        (subst (λ (l : Lists). IsLeafRefused first.pieces.items l e) taken.grown (subst (λ (qs : List Piece). IsLeafRefused qs (lists_of mid.grown) e) whole h)))
+    leaf_next_refused e h = next_refused e (leaf_refused lines first.value.ended.pieces.items old.used.items none room (lists_of old.grown) e
+        (subst (λ (l : Lists). IsLeafRefused first.value.ended.pieces.items l e) taken.grown (subst (λ (qs : List Piece). IsLeafRefused qs (lists_of mid.grown) e) whole h)))
 
-    pub leaf_next_grown : (new : OpenTree) → IsLeafEnded lines leaf mid new → HasGrown lines room old new
-    leaf_next_grown new end rest list f =
+    pub leaf_next_grown : mid.lists.items ≡ before → (new : OpenTree) → IsLeafEnded lines leaf mid new → HasGrown lines room old new
+    leaf_next_grown same new end rest list f =
         let s = last_same before rest first list (sym is ∙ f) in
-        let put = subst (λ (l : Lists). IsLeafPut lines first.pieces.items l (lists_of new.grown) end.child) taken.grown
+        let put = subst (λ (l : Lists). IsLeafPut lines first.value.ended.pieces.items l (lists_of new.grown) end.child) taken.grown
         (subst (λ (qs : List Piece). IsLeafPut lines qs (lists_of mid.grown) (lists_of new.grown) end.child) whole end.put) in
         record {
           child = end.child;
-          lists = end.lists ∙ taken.lists ∙ s.0;
+          lists = end.lists ∙ same ∙ s.0;
           partitions = end.partitions ∙ taken.partitions;
           children = end.children ∙ ap (λ (x : List Child). x ++ end.child ∷ []) taken.children;
           used = end.used ∙ taken.used;
-          grown = subst (λ (l : PlacedPieces). IsGrown lines l.pieces.items old.used.items room (lists_of old.grown) (lists_of new.grown) end.child) s.1
-              (leaf_grown lines first.pieces.items old.used.items none room (lists_of old.grown) (lists_of new.grown) end.child put);
+          grown = subst (λ (l : Waiting). IsGrown lines l.value.ended.pieces.items old.used.items room (lists_of old.grown) (lists_of new.grown) end.child) s.1
+              (leaf_grown lines first.value.ended.pieces.items old.used.items none room (lists_of old.grown) (lists_of new.grown) end.child put);
         }
 
   -- a node
-  module _ (p : Piece) (right left : PlacedPieces) (d : IsDivision lines first.pieces.items old.used.items p right.pieces.items left.pieces.items) where
+  module _ (p : Piece) (step : IsPartedStep lines first.value.ended.pieces.items old.used.items before mid.lists.items p) where
+    abbrev right : Waiting
+    right = step.parted.right
+
+    abbrev left : Waiting
+    left = step.parted.left
+
+    d : IsDivision lines first.value.ended.pieces.items old.used.items p right.value.ended.pieces.items left.value.ended.pieces.items
+    d = record { place = step.place; best = step.best; right_is = step.parted.right_is; left_is = step.parted.left_is }
+
     pub deep_next : room ≡ 0 → IsNextRefused lines room old TooDeep
     deep_next z = next_refused TooDeep (deep_here _ _ _ _ _ _ d room (lists_of old.grown) z)
 
     pub line_known : p.line < length mid.used.items
     line_known = let w = slice_get_within old.used.items p.line false (line_free _ _ _ _ _ _ d) in let n = ap length taken.used in omega (arith, n, w)
 
-    pub node_next_opened : (new : OpenTree) → IsPlacedList lines right × IsPlacedList lines left → 0 < room → IsNodeOpened p right left mid new → HasNodeOpen lines room old new
-    node_next_opened new listed some o rest list f =
+    pub node_next_opened : (new : OpenTree) → 0 < room → IsNodeOpened p mid new → HasNodeOpen lines room old new
+    node_next_opened new some o rest list f =
         let s = last_same before rest first list (sym is ∙ f) in
         record {
           partition = p;
           right = right;
           left = left;
-          division = subst (λ (l : PlacedPieces). IsDivision lines l.pieces.items old.used.items p right.pieces.items left.pieces.items) s.1 d;
-          right_listed = listed.0;
-          left_listed = listed.1;
-          lists = o.lists ∙ ap (λ (x : List PlacedPieces). (x ++ left ∷ []) ++ right ∷ []) (taken.lists ∙ s.0);
+          division = subst (λ (l : Waiting). IsDivision lines l.value.ended.pieces.items old.used.items p right.value.ended.pieces.items left.value.ended.pieces.items) s.1 d;
+          right_listed = step.parted.right_listed;
+          left_listed = step.parted.left_listed;
+          lists = o.lists ∙ step.parted.lists ∙ ap (λ (x : List Waiting). (x ++ left ∷ []) ++ right ∷ []) s.0;
           partitions = o.partitions ∙ ap (λ (x : List Piece). x ++ p ∷ []) taken.partitions;
           children = o.children ∙ taken.children;
           used = o.used ∙ ap (λ (x : List Bool). slice_set x p.line true) taken.used;
@@ -89,7 +96,7 @@ module _ (lines : List Edge) (room : ℕ) (old mid : OpenTree) (before : List Pl
         }
 
 -- ---- an open node
-module _ (lines : List Edge) (all : All IsEdge lines) (room : ℕ) (old one : OpenTree) (rest : List PlacedPieces) (list : PlacedPieces)
+module _ (lines : List Edge) (all : All IsEdge lines) (room : ℕ) (old one : OpenTree) (rest : List Waiting) (list : Waiting)
     (can : IsDivisible lines old list) (o : IsNodeOpen lines room old one rest list) where
   pub right_next : HasNext lines one
   right_next = record {
@@ -97,28 +104,28 @@ module _ (lines : List Edge) (all : All IsEdge lines) (room : ℕ) (old one : Op
     list = o.right;
     lists = o.lists;
     divisible = record {
-      reached = subst (λ (u : List Bool). IsReached lines u o.right.pieces.items) (sym o.used) (right_side_reached _ _ _ _ _ _ o.division all can.reached);
+      reached = subst (λ (u : List Bool). IsReached lines u o.right.value.ended.pieces.items) (sym o.used) (right_side_reached _ _ _ _ _ _ o.division all can.reached);
       listed = o.right_listed;
       some = right_side_some _ _ _ _ _ _ o.division all can.reached;
-      few = let f = right_side_few _ _ _ _ _ _ o.division in omega (arith, o.right.pieces.ok.0, list.pieces.ok.0, can.few);
+      few = let f = right_side_few _ _ _ _ _ _ o.division in omega (arith, o.right.value.ended.pieces.ok.0, list.value.ended.pieces.ok.0, can.few);
       fewer = let n = ap (λ (l : Lists). length l.nodes) o.grown in let c = ap (λ (l : Lists). length l.sizes) o.grown in omega (arith, n, c, can.fewer);
     };
   }
 
-  pub right_refused : (e : TreeError) → IsNextRefused lines (room - 1) one e → IsRefused lines list.pieces.items old.used.items room (lists_of old.grown) e
+  pub right_refused : (e : TreeError) → IsNextRefused lines (room - 1) one e → IsRefused lines list.value.ended.pieces.items old.used.items room (lists_of old.grown) e
   right_refused e h =
       let r = h (rest ++ o.left ∷ []) o.right o.lists in
-      let u = subst (λ (x : List Bool). IsRefused lines o.right.pieces.items x (room - 1) (lists_of one.grown) e) o.used r in
-      refused_right _ _ _ _ _ _ o.division room (lists_of old.grown) e (subst (λ (l : Lists). IsRefused lines o.right.pieces.items (slice_set old.used.items o.partition.line true) (room - 1) l e) o.grown u)
+      let u = subst (λ (x : List Bool). IsRefused lines o.right.value.ended.pieces.items x (room - 1) (lists_of one.grown) e) o.used r in
+      refused_right _ _ _ _ _ _ o.division room (lists_of old.grown) e (subst (λ (l : Lists). IsRefused lines o.right.value.ended.pieces.items (slice_set old.used.items o.partition.line true) (room - 1) l e) o.grown u)
 
   -- ---- once its right tree has grown
   module _ (two : OpenTree) (grown : HasGrown lines (room - 1) one two) where
     right_of : IsChildOf lines (room - 1) one two (rest ++ o.left ∷ []) o.right
     right_of = grown (rest ++ o.left ∷ []) o.right o.lists
 
-    right_grown : IsGrown lines o.right.pieces.items (slice_set old.used.items o.partition.line true) (room - 1) (lists_of old.grown) (lists_of two.grown) right_of.child
-    right_grown = subst (λ (l : Lists). IsGrown lines o.right.pieces.items (slice_set old.used.items o.partition.line true) (room - 1) l (lists_of two.grown) right_of.child) o.grown
-        (subst (λ (x : List Bool). IsGrown lines o.right.pieces.items x (room - 1) (lists_of one.grown) (lists_of two.grown) right_of.child) o.used right_of.grown)
+    right_grown : IsGrown lines o.right.value.ended.pieces.items (slice_set old.used.items o.partition.line true) (room - 1) (lists_of old.grown) (lists_of two.grown) right_of.child
+    right_grown = subst (λ (l : Lists). IsGrown lines o.right.value.ended.pieces.items (slice_set old.used.items o.partition.line true) (room - 1) l (lists_of two.grown) right_of.child) o.grown
+        (subst (λ (x : List Bool). IsGrown lines o.right.value.ended.pieces.items x (room - 1) (lists_of one.grown) (lists_of two.grown) right_of.child) o.used right_of.grown)
 
     used_two : two.used.items ≡ slice_set old.used.items o.partition.line true
     used_two = right_of.used ∙ o.used
@@ -129,26 +136,26 @@ module _ (lines : List Edge) (all : All IsEdge lines) (room : ℕ) (old one : Op
       list = o.left;
       lists = right_of.lists;
       divisible = record {
-        reached = subst (λ (u : List Bool). IsReached lines u o.left.pieces.items) (sym used_two) (left_side_reached _ _ _ _ _ _ o.division all can.reached);
+        reached = subst (λ (u : List Bool). IsReached lines u o.left.value.ended.pieces.items) (sym used_two) (left_side_reached _ _ _ _ _ _ o.division all can.reached);
         listed = o.left_listed;
         some = left_side_some _ _ _ _ _ _ o.division;
-        few = let f = left_side_few _ _ _ _ _ _ o.division in omega (arith, o.left.pieces.ok.0, list.pieces.ok.0, can.few);
+        few = let f = left_side_few _ _ _ _ _ _ o.division in omega (arith, o.left.value.ended.pieces.ok.0, list.value.ended.pieces.ok.0, can.few);
         fewer = fewer_mid _ _ _ _ _ _ o.division room (lists_of old.grown) (lists_of two.grown) right_of.child right_grown can.fewer;
       };
     }
 
-    pub left_refused : (e : TreeError) → IsNextRefused lines (room - 1) two e → IsRefused lines list.pieces.items old.used.items room (lists_of old.grown) e
+    pub left_refused : (e : TreeError) → IsNextRefused lines (room - 1) two e → IsRefused lines list.value.ended.pieces.items old.used.items room (lists_of old.grown) e
     left_refused e h =
         refused_left _ _ _ _ _ _ o.division room (lists_of old.grown) (lists_of two.grown) right_of.child right_grown e
-        (subst (λ (x : List Bool). IsRefused lines o.left.pieces.items x (room - 1) (lists_of two.grown) e) used_two (h rest o.left right_of.lists))
+        (subst (λ (x : List Bool). IsRefused lines o.left.value.ended.pieces.items x (room - 1) (lists_of two.grown) e) used_two (h rest o.left right_of.lists))
 
     -- ---- once both have grown
     module _ (three : OpenTree) (both : HasGrown lines (room - 1) two three) where
       left_of : IsChildOf lines (room - 1) two three rest o.left
       left_of = both rest o.left right_of.lists
 
-      left_grown : IsGrown lines o.left.pieces.items (slice_set old.used.items o.partition.line true) (room - 1) (lists_of two.grown) (lists_of three.grown) left_of.child
-      left_grown = subst (λ (x : List Bool). IsGrown lines o.left.pieces.items x (room - 1) (lists_of two.grown) (lists_of three.grown) left_of.child) used_two left_of.grown
+      left_grown : IsGrown lines o.left.value.ended.pieces.items (slice_set old.used.items o.partition.line true) (room - 1) (lists_of two.grown) (lists_of three.grown) left_of.child
+      left_grown = subst (λ (x : List Bool). IsGrown lines o.left.value.ended.pieces.items x (room - 1) (lists_of two.grown) (lists_of three.grown) left_of.child) used_two left_of.grown
 
       used_three : three.used.items ≡ slice_set old.used.items o.partition.line true
       used_three = left_of.used ∙ used_two

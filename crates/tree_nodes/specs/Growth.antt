@@ -18,7 +18,7 @@ use Rattle.tree_nodes.specs.References.{subsector}
 use Rattle.tree_nodes.specs.TreeLists.{child_of, IsEndOf, HasNodes}
 use Rattle.tree_nodes.specs.Corners.{IsJoined}
 use Rattle.tree_choice.specs.Columns.{IsEnded}
-use Rattle.tree_nodes.specs.Placed.{IsPlacedList}
+use Rattle.tree_nodes.specs.Placed.{Waiting, AreSideLists}
 
 -- ---- one step
 -- a division of a list: its best candidate, and the parts on its two sides
@@ -29,18 +29,27 @@ pub record IsDivision (lines : List Edge) (ps : List Piece) (used : List Bool) (
   pub right_is : right ≡ right_parts lines partition ps
   pub left_is : left ≡ left_parts lines partition ps
 
--- what comes of a list
-abbrev pub IsListStep : List Edge → List Piece → List Bool → Step → Type 0
-IsListStep lines ps used (StepLeaf leaf) = (leaf.pieces.items ≡ ps) × HasNoChoice lines ps used
-IsListStep lines ps used (StepParts partition right left) =
-    IsDivision lines ps used partition right.pieces.items left.pieces.items
+-- a list without a choice is a leaf: the pieces with their rounded ends, and no new list waits
+pub record IsLeafStep (lines : List Edge) (ps : List Piece) (used : List Bool)
+    (old new : List Waiting) (leaf : Waiting) : Type 0 where
+  pub pieces : leaf.value.ended.pieces.items ≡ ps
+  pub ended : IsEnded lines leaf.value.ended
+  pub none : HasNoChoice lines ps used
+  pub lists : new ≡ old
 
--- beside a leaf stand its rounded ends, and beside each of the parts what a list has: rounded
--- ends, and perhaps an order and floors
-abbrev pub HasPlacedLists : List Edge → Step → Type 0
-HasPlacedLists lines (StepLeaf leaf) = IsEnded lines leaf
-HasPlacedLists lines (StepParts partition right left) =
-    IsPlacedList lines right × IsPlacedList lines left
+-- another one has a best candidate, and the lists of its two sides wait behind the others
+pub record IsPartedStep (lines : List Edge) (ps : List Piece) (used : List Bool)
+    (old new : List Waiting) (partition : Piece) : Type 0 where
+  pub place : ℕ
+  pub best : IsBestAt lines ps used place partition
+  pub parted : AreSideLists lines partition ps old new
+
+-- what comes of a list, and of the lists that wait
+abbrev pub IsListStep : List Edge → List Piece → List Bool → List Waiting → List Waiting → Step →
+    Type 0
+IsListStep lines ps used old new (StepLeaf leaf) = IsLeafStep lines ps used old new leaf
+IsListStep lines ps used old new (StepParts partition) =
+    IsPartedStep lines ps used old new partition
 
 -- ---- the lists
 -- the pieces, the count of each leaf, and the nodes that were put down

@@ -74,7 +74,7 @@ fn grown_of(alloc: Global, lines: &Lines) -> Result<Grown, TreeError>
         Err(_) => return Err(TreeError::OutOfMemory),
         Ok(straight) => straight,
     };
-    let grown = match nothing_grown(alloc, list.pieces.len()) {
+    let grown = match nothing_grown(alloc, list.ended.pieces.len()) {
         Err(_) => return Err(TreeError::OutOfMemory),
         Ok(grown) => grown,
     };

@@ -11,6 +11,7 @@ mod open_tree;
 mod orders;
 mod parting;
 mod placed;
+mod pushing;
 mod segs;
 mod shape;
 mod step;

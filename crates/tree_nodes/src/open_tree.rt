@@ -14,7 +14,7 @@ use crate::kept::{MOST_KEPT, keep};
 use crate::placed::PlacedPieces;
 use crate::step::{Step, step_in};
 use std::alloc::{AllocError, Global};
-use tree_choice::{EndedList, StraightLines};
+use tree_choice::StraightLines;
 use tree_pieces::{Lines, Piece};
 
 /// A tree that is being grown: the lists of pieces that wait, the next one last; the partitions of the nodes on the
@@ -22,23 +22,25 @@ use tree_pieces::{Lines, Piece};
 /// are kept for their room; and what has been built.
 #[derive(Drop)]
 pub(crate) struct OpenTree {
-    pub lists: Vec<PlacedPieces>,
+    pub lists: Vec<Box<PlacedPieces>>,
     pub partitions: Vec<Piece>,
     pub children: Vec<Child>,
     pub used: Vec<bool>,
     pub straight: StraightLines,
-    pub kept: Vec<EndedList>,
+    pub kept: Vec<Box<PlacedPieces>>,
     pub grown: Grown,
 }
 
 // Puts a leaf down, as a tree that is no child yet.
-fn end_leaf(lines: &Lines, leaf: EndedList, tree: &mut OpenTree) -> Result<(), TreeError>
-    requires ended { IsEnded lines.now leaf }
-    requires some { 0 < length leaf.pieces.items }
-    ensures ok { OnOk result (IsLeafEnded lines.now leaf.pieces.items tree.old tree.new) }
-    ensures refused { IfErr result (IsLeafRefused leaf.pieces.items (lists_of tree.old.grown)) }
+fn end_leaf(lines: &Lines, leaf: Box<PlacedPieces>, tree: &mut OpenTree) -> Result<(), TreeError>
+    requires ended { IsEnded lines.now leaf.value.ended }
+    requires some { 0 < length leaf.value.ended.pieces.items }
+    ensures ok { OnOk result
+        (IsLeafEnded lines.now leaf.value.ended.pieces.items tree.old tree.new) }
+    ensures refused { IfErr result
+        (IsLeafRefused leaf.value.ended.pieces.items (lists_of tree.old.grown)) }
 {
-    let child = match put_leaf(lines, &leaf, &mut tree.grown) {
+    let child = match put_leaf(lines, &leaf.ended, &mut tree.grown) {
         Err(error) => return Err(error),
         Ok(child) => child,
     };
@@ -49,21 +51,14 @@ fn end_leaf(lines: &Lines, leaf: EndedList, tree: &mut OpenTree) -> Result<(), T
     }
 }
 
-// Opens the node of a partition: its line is used below, and the lists of its sides wait.
-fn open_node(
-    partition: Piece,
-    right: PlacedPieces,
-    left: PlacedPieces,
-    tree: &mut OpenTree,
-) -> Result<(), AllocError>
+// Opens the node of a partition: its line is used below.
+fn open_node(partition: Piece, tree: &mut OpenTree) -> Result<(), AllocError>
     requires { partition.line < length tree.old.used.items }
-    ensures { OnOk result (IsNodeOpened partition right left tree.old tree.new) }
+    ensures { OnOk result (IsNodeOpened partition tree.old tree.new) }
 {
     let line = partition.line as usize;
     tree.used[line] = true;
     tree.partitions.push(partition)?;
-    tree.lists.push(left)?;
-    tree.lists.push(right)?;
     Ok(())
 }
 
@@ -92,6 +87,7 @@ fn divide_next(
         list,
         &tree.used,
         &mut tree.straight,
+        &mut tree.lists,
         &mut tree.kept,
     ) {
         Err(_) => return Err(TreeError::OutOfMemory),
@@ -102,15 +98,11 @@ fn divide_next(
             Err(error) => Err(error),
             Ok(()) => Ok(false),
         },
-        Step::Parts {
-            partition,
-            right,
-            left,
-        } => {
+        Step::Parts(partition) => {
             if room == 0 {
                 return Err(TreeError::TooDeep);
             }
-            match open_node(partition, right, left, tree) {
+            match open_node(partition, tree) {
                 Err(_) => Err(TreeError::OutOfMemory),
                 Ok(()) => Ok(true),
             }
@@ -175,7 +167,7 @@ fn grow_next(alloc: Global, lines: &Lines, tree: &mut OpenTree, room: u32) -> Re
 // A tree of which only the first list is there.
 fn tree_over(
     alloc: Global,
-    list: PlacedPieces,
+    list: Box<PlacedPieces>,
     used: Vec<bool>,
     straight: StraightLines,
     grown: Grown,
@@ -202,21 +194,21 @@ fn tree_over(
 pub(crate) fn grow(
     alloc: Global,
     lines: &Lines,
-    list: PlacedPieces,
+    list: Box<PlacedPieces>,
     used: Vec<bool>,
     straight: StraightLines,
     room: u32,
     grown: Grown,
 ) -> Result<Grown, TreeError>
-    requires reached { IsReached lines.now used.items list.pieces.items }
-    requires placed { IsPlacedList lines.now list }
-    requires some { 0 < length list.pieces.items }
-    requires few { vec_len list.pieces < 2 ^ 31 }
+    requires reached { IsReached lines.now used.items list.value.ended.pieces.items }
+    requires placed { IsPlacedList lines.now list.value }
+    requires some { 0 < length list.value.ended.pieces.items }
+    requires few { vec_len list.value.ended.pieces < 2 ^ 31 }
     requires fewer { length grown.nodes.items ≤ length grown.counts.items }
-    ensures ok { IfOk result (λ new. HasGrownTree lines.now list.pieces.items used.items room
-        (lists_of grown) (lists_of new)) }
+    ensures ok { IfOk result (λ new. HasGrownTree lines.now list.value.ended.pieces.items
+        used.items room (lists_of grown) (lists_of new)) }
     ensures refused { IfErr result
-        (IsRefused lines.now list.pieces.items used.items room (lists_of grown)) }
+        (IsRefused lines.now list.value.ended.pieces.items used.items room (lists_of grown)) }
 {
     let mut tree = match tree_over(alloc, list, used, straight, grown) {
         Err(_) => return Err(TreeError::OutOfMemory),

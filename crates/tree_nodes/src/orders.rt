@@ -1,49 +1,40 @@
 //! Orders by places: the numbers of a list's pieces, in an order in which neighbours on the map mostly stand together.
-ghost use Rattle.std.specs.Prelude.{◌≡◌, ℕ, ◌+◌, ◌<◌, ◌≤◌, ◌^◌, ◌++◌, ◌∷◌, [], List, length, filter_map, IfOk, IfSome, OnOk};
+ghost use Rattle.std.specs.Prelude.{◌≡◌, ℕ, ◌+◌, ◌<◌, ◌≤◌, ◌^◌, ◌++◌, ◌∷◌, [], List, length, filter_map, vec_len, vec_capacity, IfOk, OnOk};
 ghost use Rattle.std.specs.List.{range_with_len};
 ghost use Rattle.std.specs.List.Sorted.{IsPermutation};
 ghost use Rattle.tree_pieces.specs.declared.edge.Edge.{Edge};
 ghost use Rattle.tree_choice.specs.Columns.{AreEnds, IsEnded};
-ghost use Rattle.tree_nodes.specs.Placed.{IsPlaced, HasNotes, part_number};
+ghost use Rattle.tree_nodes.specs.Placed.{IsPlacedList, HasNotes, part_number};
 
+use crate::kept::with_room;
+use crate::placed::PlacedPieces;
+use crate::pushing::put_ended;
 use std::alloc::{AllocError, Global};
 use tree_choice::{EndedList, EndedPieces, numbers_by_place};
-use tree_pieces::{Ends, Lines, Piece};
+use tree_pieces::{Ends, Lines};
 
 /// Longer lists than this have an order by places, and remember what their pieces cost.
-pub(crate) const LONG: usize = 256;
+pub(crate) const LONG: usize = 128;
 
 // What is noted of a piece that has no part.
 const NO_PART: u32 = u32::MAX;
 
-// A new order by places. Few lists need one, so it stands alone.
-#[inline(never)]
-fn new_order(alloc: Global, lines: &Lines, list: &[Piece]) -> Result<Option<Vec<u32>>, AllocError>
-    requires few { length list.now < 2 ^ 31 }
-    ensures { IfOk result (λ own. IfSome own (IsPlaced list.now)) }
-{
-    let order = numbers_by_place(alloc, lines, list)?;
-    Ok(Some(order))
-}
-
-/// The order by places of a long list: the one that it has already, or else a new one.
-pub(crate) fn order_of(
+/// Gives a long list an order by places, unless it has one.
+pub(crate) fn order_list(
     alloc: Global,
     lines: &Lines,
-    list: &[Piece],
-    order: Option<Vec<u32>>,
-) -> Result<Option<Vec<u32>>, AllocError>
-    requires few { length list.now < 2 ^ 31 }
-    requires order { IfSome order (IsPlaced list.now) }
-    ensures { IfOk result (λ own. IfSome own (IsPlaced list.now)) }
+    list: &mut PlacedPieces,
+) -> Result<(), AllocError>
+    requires few { vec_len list.old.ended.pieces < 2 ^ 31 }
+    requires listed { IsPlacedList lines.now list.old }
+    ensures ended { list.new.ended ≡ list.old.ended }
+    ensures listed { OnOk result (IsPlacedList lines.now list.new) }
 {
-    if list.len() <= LONG {
-        return Ok(None);
+    if list.ended.pieces.len() > LONG && list.order.is_none() {
+        let order = numbers_by_place(alloc, lines, &list.ended.pieces)?;
+        list.order = Some(order);
     }
-    match order {
-        Some(order) => Ok(Some(order)),
-        None => new_order(alloc, lines, list),
-    }
+    Ok(())
 }
 
 /// The pieces of a list in this order, with their rounded ends.
@@ -63,31 +54,16 @@ pub(crate) fn gathered(
     let pieces = list.pieces;
     let firsts = list.firsts;
     let lasts = list.lasts;
-    let mut placed = EndedList::with_room(alloc, order.len())?;
+    let mut placed = with_room(alloc, order.len())?;
     for number in order {
         let at = *number as usize;
         let ends = Ends {
             first: firsts[at],
             last: lasts[at],
         };
-        placed.push(&pieces[at], ends)?;
+        put_ended(&pieces[at], ends, &mut placed);
     }
     Ok(placed)
-}
-
-/// Room for the notes of so many pieces, if there are so many parts on a side that these have an order.
-pub(crate) fn notes_of(
-    alloc: Global,
-    pieces: usize,
-    parts: u32,
-) -> Result<Option<Vec<u32>>, AllocError>
-    ensures { IfOk result (λ notes. IfSome notes (HasNotes 0 0)) }
-{
-    if parts as usize <= LONG {
-        return Ok(None);
-    }
-    let notes = Vec::with_capacity(alloc, pieces)?;
-    Ok(Some(notes))
 }
 
 // The note of a piece: the number of its part on a side that had so many parts before it and has so many with it.
@@ -105,26 +81,18 @@ fn note_of(before: usize, after: usize) -> u32
     }
 }
 
-/// Notes the number of a piece's part, or that it has none, if numbers are noted. The side had so many parts before the
-/// piece, and has so many with it.
-pub(crate) fn note_part(
-    notes: &mut Option<Vec<u32>>,
-    before: usize,
-    after: usize,
-) -> Result<(), AllocError>
+/// Notes the number of a piece's part on a side, or that it has none. The side had so many parts before the piece, and
+/// has so many with it. Nothing is allocated.
+#[inline(always)]
+pub(crate) fn note_part(notes: &mut Vec<u32>, before: usize, after: usize)
     requires few { before < 2 ^ 31 }
     requires more { before ≤ after }
     requires one { after ≤ before + 1 }
-    ensures { (n : ℕ) → IfSome notes.old (HasNotes n before) →
-        OnOk result (IfSome notes.new (HasNotes (n + 1) after)) }
+    requires room { vec_len notes.old < vec_capacity notes.old }
+    ensures noted { (n : ℕ) → HasNotes n before notes.old → HasNotes (n + 1) after notes.new }
+    ensures room { vec_capacity notes.new ≡ vec_capacity notes.old }
 {
-    match notes {
-        None => Ok(()),
-        Some(noted) => {
-            noted.push(note_of(before, after))?;
-            Ok(())
-        }
-    }
+    notes.push_reserved(note_of(before, after));
 }
 
 // Appends the number of a part that is noted.

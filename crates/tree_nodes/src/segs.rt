@@ -58,6 +58,7 @@ fn seg_of(
 
 /// The segs of pieces, in the same order. `angles` has the angle of each line. Ends where no vertex stands become new
 /// vertices, numbered in this order.
+#[inline(never)]
 pub(crate) fn segs_of(
     alloc: Global,
     points: &mut Points,

@@ -53,7 +53,7 @@ pub record IsWritable (l : Lumps) : Type 0 where
   pub short_blockmap : length l.blockmap ≤ 131072
   pub words : length l.blockmap % 2 ≡ 0
 
-lengths : (l : Lumps) → IsWritable l → AreSized l
+pub lengths : (l : Lumps) → IsWritable l → AreSized l
 lengths l w =
     record {
       things = lump_length thing_record 10 l.things (λ k d h. refl);

@@ -1,25 +1,27 @@
 -- One more level, and what is read of each.
-use Rattle.std.proofs.Common.{◌≡◌, ◌∙◌, refl, sym, ap, subst, ℕ, suc, ◌+◌, ◌*◌, ◌<◌, ◌≤◌, List, [], ◌∷◌, ◌++◌, length, get_or, take, drop, arith, append-nil, append_assoc, take-append-drop}
-use Rattle.std.specs.Prelude.{All, flat_map, map, min, sum_by}
+use Rattle.std.proofs.Common.{◌≡◌, ◌∙◌, refl, sym, ap, subst, ℕ, zero, suc, ◌+◌, ◌<◌, ◌≤◌, List, [], ◌∷◌, ◌++◌, length, get_or, take, arith, append-nil, append_assoc, Option, None}
+use Rattle.std.specs.Prelude.{All, codes, flat_map, map}
+use Rattle.std.specs.Io.KnownBytes.{Appends}
+use Rattle.std.proofs.KnownBytes.{Appends-trans}
 use Rattle.std.proofs.Math.Seq.{take-suc, take_all}
 use Rattle.std.proofs.lemmas.List.{map-append, get_or-map, length-map}
 use Rattle.std.proofs.lemmas.List.Elements.{All-head, All-tail, All-nil, All-push, All-same, All-get_or, All-from_get_or}
-use Rattle.std.proofs.lemmas.List.Sums.{sum_by-cons, sum_by_more}
 use Rattle.std.proofs.lemmas.Grind.{flat_map-append}
 use Rattle.lump_records.specs.Names.{name_text}
+use Rattle.lump_records.specs.declared.records.Name8.{Name8}
 use Rattle.lump_records.specs.Lumps.{records_of}
-use Rattle.lump_records.specs.Records.{thing_at, line_at, side_at, vertex_at, seg_at, sub_at, node_at, sector_at, thing_record, line_record, side_record, vertex_record, seg_record, sub_record, node_record, sector_record}
+use Rattle.lump_records.specs.Records.{thing_at, line_at, side_at, vertex_at, seg_at, sub_at, node_at, sector_at}
 use Rattle.wad_build.specs.declared.levels.NamedLevel.{NamedLevel}
 use Rattle.wad_levels.specs.Levels.{Lumps, IsLevel, lumps_behind, marker_at}
 use Rattle.wad_file.specs.Directory.{lump}
 use Rattle.wad_build.specs.Wad.{Part, AreParts, IsCoded, IsReadBack, all_lumps, lumps_of, level_part, wad_bytes}
-use Rattle.wad_file.specs.Lumps.{Lump, all_bytes, wad_size}
-use Rattle.wad_build.specs.Views.{built_view, level_parts}
-use Rattle.wad_build.specs.Sizes.{AreSized, level_len, wad_len}
-use Rattle.wad_file.specs.Drafts.{Draft, Puts, Takes, no_lumps}
-use Rattle.wad_build.proofs.PartLemmas.{length-all, reads_back}
-use Rattle.wad_build.proofs.PutLemmas.{ten_long}
-use Rattle.wad_file.proofs.DraftLemmas.{all_bytes-length, put_both, takes_behind, takes_front}
+use Rattle.wad_file.specs.Lumps.{Lump, all_bytes}
+use Rattle.wad_file.specs.Placed.{AreContents, Placed, placed_directory, placed_head, placed_size, sized}
+use Rattle.wad_build.specs.Views.{built_view, level_parts, sized_levels}
+use Rattle.wad_build.specs.Sizes.{AreSized, sized_lumps, with_sizes}
+use Rattle.wad_build.proofs.PartLemmas.{all_long, reads_back}
+use Rattle.wad_file.proofs.DraftLemmas.{all_bytes-append}
+use Rattle.wad_file.proofs.PlacedLemmas.{size_is, wad_long, whole_written}
 
 one_more : (levels : List NamedLevel) (n : ℕ) (x : NamedLevel) → n < length levels → get_or levels n x ≡ x → take (n + 1) levels ≡ take n levels ++ (x ∷ [])
 one_more levels n x h e =
@@ -35,39 +37,16 @@ lumps_more levels n x h e =
     ∙ flat_map-append lumps_of (level_parts (take n levels)) (level_part x.name (built_view x.level) ∷ [])
     ∙ ap (λ (ls : List Lump). all_lumps (level_parts (take n levels)) ++ ls) (append-nil (lumps_of (level_part x.name (built_view x.level))))
 
--- one more level's lumps
+-- one more level's lumps are written
 pub put_level :
-    (a b c : Draft) (levels : List NamedLevel) (n : ℕ) (x : NamedLevel) → n < length levels → get_or levels n x ≡ x → Puts a b (all_lumps (level_parts (take n levels)))
-    → Puts b c (lumps_of (level_part x.name (built_view x.level))) → Puts a c (all_lumps (level_parts (take (n + 1) levels)))
-put_level a b c levels n x h e p q =
-    subst (λ (ls : List Lump). Puts a c ls) (sym (lumps_more levels n x h e))
-    (put_both a b c (all_lumps (level_parts (take n levels))) (lumps_of (level_part x.name (built_view x.level))) p q)
-
--- the lumps of the levels up to one, its own, and those after it
-lumps_split :
-    (levels : List NamedLevel) (n : ℕ) (x : NamedLevel) → n < length levels → get_or levels n x ≡ x
-    → all_lumps (level_parts levels) ≡ all_lumps (level_parts (take n levels)) ++ (lumps_of (level_part x.name (built_view x.level)) ++ all_lumps (level_parts (drop (n + 1) levels)))
-lumps_split levels n x h e =
-    ap (λ (ls : List NamedLevel). all_lumps (level_parts ls)) (sym (take-append-drop (n + 1) levels))
-    ∙ ap all_lumps (map-append (λ (l : NamedLevel). level_part l.name (built_view l.level)) (take (n + 1) levels) (drop (n + 1) levels))
-    ∙ flat_map-append lumps_of (level_parts (take (n + 1) levels)) (level_parts (drop (n + 1) levels))
-    ∙ ap (λ (ls : List Lump). ls ++ all_lumps (level_parts (drop (n + 1) levels))) (lumps_more levels n x h e)
-    ∙ append_assoc (all_lumps (level_parts (take n levels))) (lumps_of (level_part x.name (built_view x.level))) (all_lumps (level_parts (drop (n + 1) levels)))
-
-pub fits_level :
-    (a b : Draft) (levels : List NamedLevel) (n : ℕ) (x : NamedLevel) → n < length levels → get_or levels n x ≡ x → Takes a (all_lumps (level_parts levels))
-    → Puts a b (all_lumps (level_parts (take n levels))) → Takes b (lumps_of (level_part x.name (built_view x.level)))
-fits_level a b levels n x h e f p =
+    (u v w : Option (List ℕ)) (levels : List NamedLevel) (n : ℕ) (x : NamedLevel) → n < length levels → get_or levels n x ≡ x
+    → Appends u v (all_bytes (all_lumps (level_parts (take n levels)))) → Appends v w (all_bytes (lumps_of (level_part x.name (built_view x.level))))
+    → Appends u w (all_bytes (all_lumps (level_parts (take (n + 1) levels))))
+put_level u v w levels n x h e p q =
+    let before = all_lumps (level_parts (take n levels)) in
     let mine = lumps_of (level_part x.name (built_view x.level)) in
-    let others = all_lumps (level_parts (drop (n + 1) levels)) in
-    takes_front b mine others (takes_behind a b (all_lumps (level_parts (take n levels))) (mine ++ others) p (subst (Takes a) (lumps_split levels n x h e) f))
-
--- eleven lumps a level
-are_counted : (levels : List NamedLevel) → AreParts (level_parts levels) → length (all_lumps (level_parts levels)) ≡ 11 * length levels
-are_counted levels a =
-    let l = length-all (level_parts levels) a.each in
-    let m = length-map levels (λ (l : NamedLevel). level_part l.name (built_view l.level)) in
-    omega (arith, l, m)
+    let same : all_bytes before ++ all_bytes mine ≡ all_bytes (all_lumps (level_parts (take (n + 1) levels))) = sym (all_bytes-append before mine) ∙ ap all_bytes (sym (lumps_more levels n x h e)) in
+    subst (Appends u w) same (Appends-trans u v w (all_bytes before) (all_bytes mine) p q)
 
 pub coded_more :
     (levels : List NamedLevel) (n : ℕ) (x : NamedLevel) → n < length levels → get_or levels n x ≡ x → All (λ (l : NamedLevel). IsCoded (built_view l.level)) (take n levels) → IsCoded (built_view x.level)
@@ -106,76 +85,82 @@ levels_read wad (y ∷ levels) a w c =
     (subst (λ (p : Part). IsReadBack wad p) g (subst (λ (ws : List ℕ). IsReadBack ws (get_or (level_parts (y ∷ levels)) i (level_part y.name (built_view y.level)))) (sym w) r))
     (All-get_or (λ (l : NamedLevel). IsCoded (built_view l.level)) (y ∷ levels) i y h c))
 
--- the marker and three runs of lumps are a level's lumps
-pub put_runs :
-    (w0 w1 w2 w3 w4 : Draft) (d t e : List Lump) (x : Lump) → Puts w0 w1 (x ∷ []) → Puts w1 w2 d → Puts w2 w3 t → Puts w3 w4 e → Puts w0 w4 (x ∷ (d ++ (t ++ e)))
-put_runs w0 w1 w2 w3 w4 d t e x a b f g = put_both w0 w1 w4 (x ∷ []) (d ++ (t ++ e)) a (put_both w1 w2 w4 d (t ++ e) b (put_both w2 w3 w4 t e f g))
-
--- ---- how long the PWAD will be
-
--- the length with one more level, or the greatest number of 128 bits
-pub len_more :
-    (levels : List NamedLevel) (n : ℕ) (x : NamedLevel) (old len new : ℕ) → n < length levels → get_or levels n x ≡ x
-    → old ≡ min (wad_len (take n (map (λ (y : NamedLevel). built_view y.level) levels))) 340282366920938463463374607431768211455 → len ≡ level_len (built_view x.level)
-    → new ≡ min (len + old) 340282366920938463463374607431768211455
-    → new ≡ min (wad_len (take (n + 1) (map (λ (y : NamedLevel). built_view y.level) levels))) 340282366920938463463374607431768211455
-len_more levels n x old len new h e o l w =
-    let many = length-map levels (λ (y : NamedLevel). built_view y.level) in
-    let at = get_or-map (λ (y : NamedLevel). built_view y.level) levels n x (built_view x.level) h ∙ ap (λ (y : NamedLevel). built_view y.level) e in
-    let more = sum_by_more level_len (map (λ (y : NamedLevel). built_view y.level) levels) n (built_view x.level) (omega (arith, many, h))
-    ∙ ap (λ (k : Lumps). sum_by level_len (take n (map (λ (y : NamedLevel). built_view y.level) levels)) + level_len k) at in
-    saturated (sum_by level_len (take n (map (λ (y : NamedLevel). built_view y.level) levels))) (level_len (built_view x.level)) _ old len new more o l w
-  where
-    saturated :
-        (sum one sums old len new : ℕ) → sums ≡ sum + one → old ≡ min (12 + sum) 340282366920938463463374607431768211455 → len ≡ one
-        → new ≡ min (len + old) 340282366920938463463374607431768211455 → new ≡ min (12 + sums) 340282366920938463463374607431768211455
-    saturated sum one sums old len new s o l w = omega (arith, s, o, l, w)
+-- ---- the sizes of the lumps
 
 abbrev pub IsSizedLevel : NamedLevel → Type 0
 IsSizedLevel x = AreSized (built_view x.level)
 
-sized : (levels : List NamedLevel) → All IsSizedLevel levels
-    → sum_by level_len (map (λ (y : NamedLevel). built_view y.level) levels) ≡ length (all_bytes (all_lumps (level_parts levels))) + 176 * length levels
-sized [] a = refl
-sized (y ∷ levels) a =
-    let l = built_view y.level in
-    let s = All-head IsSizedLevel y levels a in
-    let r = sized levels (All-tail IsSizedLevel y levels a) in
-    let n = all_bytes-length (lumps_of (level_part y.name l)) (all_lumps (level_parts levels)) in
-    let t = ten_long (flat_map thing_record l.things) (flat_map line_record l.lines) (flat_map side_record l.sides) (flat_map vertex_record l.vertices) (flat_map seg_record l.segs)
-    (flat_map sub_record l.subs) (flat_map node_record l.nodes) (flat_map sector_record l.sectors) l.reject l.blockmap in
-    let e0 = s.things in let e1 = s.lines in let e2 = s.sides in let e3 = s.vertices in
-    let e4 = s.segs in let e5 = s.subs in let e6 = s.nodes in let e7 = s.sectors in
-    let more = sum_by-cons level_len l (map (λ (x : NamedLevel). built_view x.level) levels) in
-    omega (arith, r, n, t, more, e0, e1, e2, e3, e4, e5, e6, e7)
+-- a level's lumps have the sizes that are told
+sized_level : (name : Name8) (l : Lumps) → AreSized l → AreContents None (sized_lumps name l) (lumps_of (level_part name l))
+sized_level name l s =
+    (refl, (refl, tt), (refl, (s.things, tt), (refl, (s.lines, tt), (refl, (s.sides, tt), (refl, (s.vertices, tt), (refl, (s.segs, tt), (refl, (s.subs, tt), (refl, (s.nodes, tt), (refl, (s.sectors, tt), (refl, (refl, tt), (refl, (refl, tt), tt)))))))))))
 
--- the length that is told is the PWAD's
-pub total_exact :
-    (levels : List NamedLevel) (n total : ℕ) → length levels ≤ n
-    → total ≡ min (wad_len (take n (map (λ (y : NamedLevel). built_view y.level) levels))) 340282366920938463463374607431768211455
-    → AreParts (level_parts levels) → All IsSizedLevel levels → total ≡ wad_size (all_lumps (level_parts levels))
-total_exact levels n total h t a s =
-    let many = length-map levels (λ (y : NamedLevel). built_view y.level) in
-    let whole = take_all n (map (λ (y : NamedLevel). built_view y.level) levels) (omega (arith, many, h)) in
-    let count = are_counted levels a in
-    let fits = a.fits in
-    let sum = sized levels s in
-    let told : total ≡ min (wad_len (map (λ (y : NamedLevel). built_view y.level) levels)) 340282366920938463463374607431768211455
-    = t ∙ ap (λ (ls : List Lumps). min (wad_len ls) 340282366920938463463374607431768211455) whole in
-    omega (arith, told, sum, count, fits)
+AreContents-append : (ps qs : List Placed) (ls ms : List Lump) → AreContents None ps ls → AreContents None qs ms → AreContents None (ps ++ qs) (ls ++ ms)
+AreContents-append [] qs [] ms a b = b
+AreContents-append [] qs (l ∷ ls) ms a b = absurd a
+AreContents-append (p ∷ ps) qs [] ms a b = absurd a
+AreContents-append (p ∷ ps) qs (l ∷ ls) ms a b = (a.0, a.1, AreContents-append ps qs ls ms a.2 b)
 
--- ---- the whole PWAD
+are_sized : (levels : List NamedLevel) → All IsSizedLevel levels → AreContents None (sized_levels levels) (all_lumps (level_parts levels))
+are_sized [] a = tt
+are_sized (y ∷ levels) a =
+    AreContents-append (sized_lumps y.name (built_view y.level)) (sized_levels levels) (lumps_of (level_part y.name (built_view y.level))) (all_lumps (level_parts levels))
+    (sized_level y.name (built_view y.level) (All-head IsSizedLevel y levels a)) (are_sized levels (All-tail IsSizedLevel y levels a))
 
--- the levels fit into a WAD without lumps
-pub takes_levels : (w : Draft) (levels : List NamedLevel) → w ≡ no_lumps → AreParts (level_parts levels) → Takes w (all_lumps (level_parts levels))
-takes_levels w levels none a =
-    let f = a.fits in
-    let n = ap (λ (d : Draft). wad_size d.lumps) none in
-    record { ready = ap (λ (d : Draft). d.begun) none; fits = omega (arith, f, n) }
+listed_sized : (list : List Placed) (levels : List NamedLevel) → list ≡ sized_levels levels → All IsSizedLevel levels → AreContents None list (all_lumps (level_parts levels))
+listed_sized list levels e a = subst (λ (ps : List Placed). AreContents None ps (all_lumps (level_parts levels))) (sym e) (are_sized levels a)
 
--- the finished WAD fits
-pub takes_none : (w v : Draft) (lumps : List Lump) → Takes w lumps → Puts w v lumps → Takes v []
-takes_none w v lumps t p = takes_behind w v lumps [] p (subst (Takes w) (sym (append-nil lumps)) t)
+-- so the length of the PWAD is known
+pub pwad_fits : (list : List Placed) (levels : List NamedLevel) → list ≡ sized_levels levels → All IsSizedLevel levels → AreParts (level_parts levels) → placed_size list < 4294967296
+pwad_fits list levels e a p =
+    let n = size_is None list (all_lumps (level_parts levels)) (listed_sized list levels e a) in
+    let f = p.fits in
+    omega (arith, n, f)
 
-pub put_whole : (w v : Draft) (lumps : List Lump) (out : List ℕ) → w ≡ no_lumps → Puts w v lumps → out ≡ wad_bytes v.lumps → out ≡ wad_bytes lumps
-put_whole w v lumps out none p o = o ∙ ap wad_bytes (p.lumps_are ∙ ap (λ (d : Draft). d.lumps ++ lumps) none)
+pub pwad_long : (list : List Placed) (levels : List NamedLevel) → list ≡ sized_levels levels → All IsSizedLevel levels → AreParts (level_parts levels)
+    → placed_size list ≡ length (wad_bytes (all_lumps (level_parts levels)))
+pwad_long list levels e a p =
+    let lumps = all_lumps (level_parts levels) in
+    sym (wad_long (codes "PWAD") lumps refl (all_long (level_parts levels) p.each) ∙ size_is None list lumps (listed_sized list levels e a))
+
+-- header, lumps and directory are the PWAD
+pub pwad_written : (u v w x : Option (List ℕ)) (list : List Placed) (levels : List NamedLevel) → list ≡ sized_levels levels → All IsSizedLevel levels → Appends u v (placed_head (codes "PWAD") list)
+    → Appends v w (all_bytes (all_lumps (level_parts levels))) → Appends w x (placed_directory list) → Appends u x (wad_bytes (all_lumps (level_parts levels)))
+pwad_written u v w x list levels e a head body directory =
+    whole_written None u v w x (codes "PWAD") list (all_lumps (level_parts levels)) (listed_sized list levels e a) head body directory
+
+-- ---- listed one by one
+
+with_sizes-more : (names : List Name8) (sizes : List ℕ) (n : ℕ) (d : Name8) (f : ℕ) → n < length names → length names ≡ length sizes
+    → with_sizes (take (n + 1) names) (take (n + 1) sizes) ≡ with_sizes (take n names) (take n sizes) ++ sized (get_or names n d) (get_or sizes n f) ∷ []
+with_sizes-more [] sizes n d f h e = absurd (omega arith)
+with_sizes-more (y ∷ names) [] n d f h e = absurd (omega (arith, e))
+with_sizes-more (y ∷ names) (z ∷ sizes) zero d f h e = refl
+with_sizes-more (y ∷ names) (z ∷ sizes) (suc n) d f h e =
+    let next : suc n + 1 ≡ suc (n + 1) = omega arith in
+    ap (λ (k : ℕ). with_sizes (take k (y ∷ names)) (take k (z ∷ sizes))) next
+    ∙ ap (λ (ps : List Placed). sized y z ∷ ps) (with_sizes-more names sizes n d f (omega arith) (omega (arith, e)))
+
+-- a lump more
+pub lumps_listed : (old list new : List Placed) (names : List Name8) (sizes : List ℕ) (n : ℕ) (d : Name8) (f : ℕ) → n < length names → length names ≡ length sizes
+    → list ≡ old ++ with_sizes (take n names) (take n sizes) → new ≡ list ++ sized (get_or names n d) (get_or sizes n f) ∷ []
+    → new ≡ old ++ with_sizes (take (n + 1) names) (take (n + 1) sizes)
+lumps_listed old list new names sizes n d f h e before more =
+    let x = sized (get_or names n d) (get_or sizes n f) in
+    more ∙ ap (λ (ps : List Placed). ps ++ x ∷ []) before ∙ append_assoc old (with_sizes (take n names) (take n sizes)) (x ∷ [])
+    ∙ ap (λ (ps : List Placed). old ++ ps) (sym (with_sizes-more names sizes n d f h e))
+
+-- all of them
+pub lumps_whole : (old list : List Placed) (names : List Name8) (sizes : List ℕ) (n : ℕ) → length names ≤ n → length names ≡ length sizes → list ≡ old ++ with_sizes (take n names) (take n sizes)
+    → list ≡ old ++ with_sizes names sizes
+lumps_whole old list names sizes n h e before =
+    before ∙ ap (λ (ns : List Name8). old ++ with_sizes ns (take n sizes)) (take_all n names h) ∙ ap (λ (ks : List ℕ). old ++ with_sizes names ks) (take_all n sizes (omega (arith, h, e)))
+
+-- a level more
+pub level_listed : (list new : List Placed) (levels : List NamedLevel) (n : ℕ) (x : NamedLevel) → n < length levels → get_or levels n x ≡ x → list ≡ sized_levels (take n levels)
+    → new ≡ list ++ sized_lumps x.name (built_view x.level) → new ≡ sized_levels (take (n + 1) levels)
+level_listed list new levels n x h e before more =
+    let f = λ (y : NamedLevel). sized_lumps y.name (built_view y.level) in
+    more ∙ ap (λ (ps : List Placed). ps ++ f x) before ∙ ap (λ (ps : List Placed). sized_levels (take n levels) ++ ps) (sym (append-nil (f x)))
+    ∙ sym (flat_map-append f (take n levels) (x ∷ []))
+    ∙ ap sized_levels (sym (one_more levels n x h e))

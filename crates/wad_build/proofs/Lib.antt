@@ -15,3 +15,4 @@ pub mod CopyLemmas
 pub mod ProjectLemmas
 pub mod CountedLemmas
 pub mod OneLevel
+pub mod WrittenLemmas

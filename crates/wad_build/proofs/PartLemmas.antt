@@ -210,7 +210,7 @@ with_long (x ∷ names) (b ∷ bytes) a =
     All-cons (λ (l : Lump). length l.name.bytes ≡ 8) (record { name = x; bytes = b }) (with_names names bytes) (All-head (λ (n : Name8). length n.bytes ≡ 8) x names a)
     (with_long names bytes (All-tail (λ (n : Name8). length n.bytes ≡ 8) x names a))
 
-all_long : (parts : List Part) → All IsPart parts → All (λ (l : Lump). length l.name.bytes ≡ 8) (all_lumps parts)
+pub all_long : (parts : List Part) → All IsPart parts → All (λ (l : Lump). length l.name.bytes ≡ 8) (all_lumps parts)
 all_long [] a = All-nil (λ (l : Lump). length l.name.bytes ≡ 8)
 all_long (p ∷ parts) a =
     All-append (λ (l : Lump). length l.name.bytes ≡ 8) (lumps_of p) (all_lumps parts)

@@ -19,7 +19,8 @@ use Rattle.wad_build.specs.declared.error.Unbuilt.{Unbuilt}
 use Rattle.wad_build.specs.declared.error.BuildError.{BuildError}
 use Rattle.wad_build.specs.declared.error.BuildError.TheVariants.{NothingToBuild, TooManyVertices, TooManySegs, TooManySubsectors, TooDeep, BlockmapTooLarge, OutOfMemory}
 use Rattle.wad_build.proofs.CopyLemmas.{item_more}
-use Rattle.wad_build.proofs.LengthLemmas.{one_long}
+use Rattle.wad_build.proofs.LengthLemmas.{lengths, one_long}
+use Rattle.wad_build.proofs.LevelLemmas.{IsSizedLevel}
 use Rattle.wad_build.proofs.SoundLemmas.{part_of_level, level_sound, sound_build, buildable, level_writable}
 
 -- if a number names no item, it is past the last one
@@ -156,6 +157,13 @@ holds_only wad ms xs a w =
       built = built_levels ms xs a;
       bytes = w ∙ ap (λ (ps : List Part). wad_bytes (all_lumps ps)) (same_parts ms xs a);
     }
+
+-- the records of each level have the bytes of their kinds
+pub levels_sized : (ms : List Tables) (xs : List NamedLevel) → AreLevelsOf ms xs → All IsSizedLevel xs
+levels_sized [] [] a = All-nil IsSizedLevel
+levels_sized [] (x ∷ xs) a = absurd a
+levels_sized (m ∷ ms) [] a = absurd a
+levels_sized (m ∷ ms) (x ∷ xs) a = All-cons IsSizedLevel x xs (lengths (built_view x.level) (level_writable m (built_view x.level) a.0.level)) (levels_sized ms xs a.1)
 
 -- ---- one WAD can hold them
 

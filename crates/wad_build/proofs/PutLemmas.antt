@@ -1,41 +1,26 @@
--- Lumps that are appended one behind another.
-use Rattle.std.proofs.Common.{◌≡◌, ◌∙◌, sym, ap, subst, ℕ, ◌+◌, ◌<◌, List, [], ◌∷◌, ◌++◌, length, arith, length-append, append-nil}
-use Rattle.lump_records.specs.declared.records.Name8.{Name8}
-use Rattle.wad_file.specs.Drafts.{Draft, Puts, Takes}
-use Rattle.wad_file.specs.Lumps.{Lump, wad_size}
-use Rattle.wad_file.proofs.DraftLemmas.{put_both, put_lumps}
+-- Lumps that are written one behind another.
+use Rattle.std.proofs.Common.{◌≡◌, ◌∙◌, sym, ap, subst, ℕ, ◌+◌, List, [], ◌∷◌, ◌++◌, length, length-append, append-nil, arith, Option}
+use Rattle.std.specs.Io.KnownBytes.{Appends}
+use Rattle.std.proofs.KnownBytes.{Appends-trans}
+use Rattle.wad_file.specs.Lumps.{Lump, all_bytes}
+use Rattle.wad_file.proofs.DraftLemmas.{all_bytes-append}
 
-abbrev pub named_lump : Name8 → List ℕ → Lump
-named_lump name bytes = record { name = name; bytes = bytes }
+-- the last of several
+put_last : (u v : Option (List ℕ)) (x : List ℕ) → Appends u v x → Appends u v (x ++ [])
+put_last u v x p = subst (Appends u v) (sym (append-nil x)) p
 
--- one more lump, whose bytes are known
-pub put_next : (a b c : Draft) (xs : List Lump) (name : Name8) (new known : List ℕ) → Puts a b xs → Puts b c (named_lump name new ∷ []) → new ≡ known → Puts a c (xs ++ (named_lump name known ∷ []))
-put_next a b c xs name new known p q e = put_both a b c xs (named_lump name known ∷ []) p (subst (λ (ws : List ℕ). Puts b c (named_lump name ws ∷ [])) e q)
+pub put_three : (a b c d : Option (List ℕ)) (x y z : List ℕ) → Appends a b x → Appends b c y → Appends c d z → Appends a d (x ++ (y ++ (z ++ [])))
+put_three a b c d x y z p q r = Appends-trans a b d x (y ++ (z ++ [])) p (Appends-trans b c d y (z ++ []) q (put_last c d z r))
 
--- ---- a lump whose bytes are appended before it ends
+pub put_four : (a b c d e : Option (List ℕ)) (w x y z : List ℕ) → Appends a b w → Appends b c x → Appends c d y → Appends d e z → Appends a e (w ++ (x ++ (y ++ (z ++ []))))
+put_four a b c d e w x y z o p q r = Appends-trans a b e w (x ++ (y ++ (z ++ []))) o (put_three b c d e x y z p q r)
 
--- the bytes fit, so the lump may end
-pub may_end :
-    (a m : Draft) (name : Name8) (bytes : List ℕ) → Takes a (named_lump name bytes ∷ []) → m.begun ≡ a.begun ++ bytes → m.lumps ≡ a.lumps
-    → wad_size m.lumps + length m.begun + 16 < 4294967296
-may_end a m name bytes t is same =
-    let f = t.fits in
-    let n1 = ap (λ (ws : List ℕ). length ws) is ∙ length-append a.begun bytes in
-    let n2 = ap (λ (ws : List ℕ). length ws) t.ready in
-    let n3 = ap wad_size same in
-    let n4 = length-append bytes [] in
-    omega (arith, f, n1, n2, n3, n4)
-
--- the lump is appended
-pub put_ended :
-    (a m b : Draft) (name : Name8) (bytes : List ℕ) → a.begun ≡ [] → m.begun ≡ a.begun ++ bytes → m.lumps ≡ a.lumps
-    → b ≡ record { lumps = m.lumps ++ named_lump name m.begun ∷ []; begun = [] } → Puts a b (named_lump name bytes ∷ [])
-put_ended a m b name bytes none is same e =
-    let begun : m.begun ≡ bytes = is ∙ ap (λ (ws : List ℕ). ws ++ bytes) none in
-    put_lumps a b (named_lump name bytes ∷ [])
-    (ap (λ (d : Draft). d.lumps) e ∙ ap (λ (ls : List Lump). ls ++ named_lump name m.begun ∷ []) same
-    ∙ ap (λ (ws : List ℕ). a.lumps ++ named_lump name ws ∷ []) begun)
-    (ap (λ (d : Draft). d.begun) e)
+-- three runs of lumps
+pub put_runs : (a b c d : Option (List ℕ)) (x y z : List Lump) → Appends a b (all_bytes x) → Appends b c (all_bytes y) → Appends c d (all_bytes z) → Appends a d (all_bytes (x ++ (y ++ z)))
+put_runs a b c d x y z p q r =
+    let same : all_bytes x ++ (all_bytes y ++ all_bytes z) ≡ all_bytes (x ++ (y ++ z)) =
+    ap (λ (bs : List ℕ). all_bytes x ++ bs) (sym (all_bytes-append y z)) ∙ sym (all_bytes-append x (y ++ z)) in
+    subst (Appends a d) same (Appends-trans a b d (all_bytes x) (all_bytes y ++ all_bytes z) p (Appends-trans b c d (all_bytes y) (all_bytes z) q r))
 
 pub ten_long :
     (b0 b1 b2 b3 b4 b5 b6 b7 b8 b9 : List ℕ)

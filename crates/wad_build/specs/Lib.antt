@@ -1,7 +1,7 @@
 pub mod Errors
 pub mod Wad
-pub mod Views
 pub mod Sizes
+pub mod Views
 pub mod Reject
 pub mod Words
 pub mod Range
@@ -11,3 +11,4 @@ pub mod Audit
 pub mod Sound
 pub mod Projects
 pub mod Counted
+pub mod Written

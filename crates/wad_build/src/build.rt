@@ -10,13 +10,15 @@ ghost use Rattle.tree_blocks.specs.Blocks.{ends_over};
 ghost use Rattle.tree_blocks.specs.Lump.{IsBlockmapOver};
 ghost use Rattle.wad_levels.specs.Levels.{IsLevel, Lumps};
 ghost use Rattle.wad_build.specs.Projects.{HoldsOnly};
+ghost use Rattle.wad_build.specs.Sizes.{AreSized};
 ghost use Rattle.wad_build.specs.Sound.{CanBeBuilt, IsBuildRefusal, IsBuiltLevel, IsSoundBuild};
 ghost use Rattle.wad_build.specs.Sound.{HasTree, IsSoundOver, level_over, of_blockmap, of_tree};
 ghost use Rattle.wad_build.specs.Views.{built_view};
 ghost use Rattle.wad_build.specs.Wad.{AreParts, all_lumps, level_part, wad_bytes};
 
+use crate::counted::counted_wad;
 use crate::error::BuildError;
-use crate::levels::{BuiltLevel, NamedLevel, wad_of_levels};
+use crate::levels::{BuiltLevel, NamedLevel};
 use lump_records::Name8;
 use map_tables::{Kind, Map};
 use std::alloc::Global;
@@ -63,7 +65,8 @@ fn level_of<'a>(map: &'a Map, tree: Built, blockmap: Vec<u8>) -> BuiltLevel<'a>
 
 // The PWAD of one level, which reads back by its name.
 fn wad_of_level(alloc: Global, name: Name8, level: BuiltLevel<'_>) -> Result<Vec<u8>, BuildError>
-    requires { AreParts (level_part name (built_view level) ∷ []) }
+    requires sized { AreSized (built_view level) }
+    requires parts { AreParts (level_part name (built_view level) ∷ []) }
     ensures bytes { IfOk result (λ wad.
         wad.items ≡ wad_bytes (all_lumps (level_part name (built_view level.entry) ∷ []))) }
     ensures level { IfOk result (λ wad.
@@ -71,8 +74,8 @@ fn wad_of_level(alloc: Global, name: Name8, level: BuiltLevel<'_>) -> Result<Vec
     ensures memory { IsOkUnless result BuildError.OutOfMemory }
 {
     let levels = [NamedLevel { name, level }];
-    match wad_of_levels(alloc, &levels) {
-        Ok(wad) => Ok(wad),
+    match counted_wad(alloc, &levels) {
+        Ok(built) => Ok(built.bytes),
         Err(_) => Err(BuildError::OutOfMemory),
     }
 }

@@ -1,14 +1,17 @@
-//! The PWAD of levels, and the numbers of their records, counted from the levels that are written.
+//! The PWAD of levels, and the numbers of their records, counted before it is written.
 ghost use Rattle.std.specs.Prelude.{◌≡◌, ◌+◌, All, length, map, IfOk, IsOkUnless};
 ghost use Rattle.lump_records.specs.Names.{name_text};
 ghost use Rattle.wad_build.specs.Counted.{CountsLevels, CountsMore};
 ghost use Rattle.wad_levels.specs.Levels.{IsLevel};
-ghost use Rattle.wad_build.specs.Views.{built_view, level_parts};
+ghost use Rattle.wad_build.specs.Sizes.{AreSized};
+ghost use Rattle.wad_build.specs.Views.{built_view, level_parts, sized_levels};
 ghost use Rattle.wad_build.specs.Wad.{AreParts, all_lumps, wad_bytes};
 
 use crate::error::BuildError;
-use crate::levels::{BuiltLevel, NamedLevel, wad_of_levels};
+use crate::levels::{BuiltLevel, NamedLevel, write_pwad};
+use crate::sizes::list_levels;
 use std::alloc::Global;
+use wad_file::LumpList;
 
 /// How many vertices, segs, subsectors and nodes the built levels have in all, and how many bytes the PWAD has.
 #[derive(Clone, Copy)]
@@ -24,6 +27,13 @@ pub struct BuildCounts {
 #[derive(Drop)]
 pub struct BuiltWad {
     pub bytes: Vec<u8>,
+    pub counts: BuildCounts,
+}
+
+/// What is known of a PWAD before a byte of it is written: its lumps by their sizes, and its counts.
+#[derive(Drop)]
+pub struct CountedLumps<'a> {
+    pub lumps: LumpList<'a>,
     pub counts: BuildCounts,
 }
 
@@ -53,7 +63,7 @@ fn with_level(counts: BuildCounts, level: &BuiltLevel<'_>) -> Result<BuildCounts
 }
 
 // The counts of the levels, whose PWAD has `len` bytes.
-fn counts_of(levels: &[NamedLevel<'_>], len: usize) -> Result<BuildCounts, BuildError>
+fn counts_of(levels: &[NamedLevel<'_>], len: u64) -> Result<BuildCounts, BuildError>
     ensures counted { IfOk result
         (CountsLevels (map (λ x. built_view x.level) levels.now) len) }
     ensures memory { IsOkUnless result BuildError.OutOfMemory }
@@ -63,7 +73,7 @@ fn counts_of(levels: &[NamedLevel<'_>], len: usize) -> Result<BuildCounts, Build
         segs: 0,
         subs: 0,
         nodes: 0,
-        bytes: len as u64,
+        bytes: len,
     };
     for n in 0..levels.len() {
         let named = &levels[n];
@@ -75,9 +85,28 @@ fn counts_of(levels: &[NamedLevel<'_>], len: usize) -> Result<BuildCounts, Build
     Ok(counts)
 }
 
+/// The lumps of the levels' PWAD, and its counts.
+pub fn counted_lumps<'a>(
+    alloc: Global,
+    levels: &[NamedLevel<'_>],
+) -> Result<CountedLumps<'a>, BuildError>
+    requires sized { All (λ l. AreSized (built_view l.level)) levels.now }
+    requires parts { AreParts (level_parts levels.now) }
+    ensures lumps { IfOk result (λ c. c.lumps ≡ sized_levels levels.now) }
+    ensures counted { IfOk result (λ c. CountsLevels
+        (map (λ x. built_view x.level) levels.now)
+        (length (wad_bytes (all_lumps (level_parts levels.now)))) c.counts) }
+    ensures memory { IsOkUnless result BuildError.OutOfMemory }
+{
+    let lumps = list_levels(alloc, levels)?;
+    let counts = counts_of(levels, lumps.size())?;
+    Ok(CountedLumps { lumps, counts })
+}
+
 /// The PWAD of the levels, each of which reads back by its name, and its counts.
 pub fn counted_wad(alloc: Global, levels: &[NamedLevel<'_>]) -> Result<BuiltWad, BuildError>
-    requires { AreParts (level_parts levels.now) }
+    requires sized { All (λ l. AreSized (built_view l.level)) levels.now }
+    requires parts { AreParts (level_parts levels.now) }
     ensures bytes { IfOk result (λ built.
         built.bytes.items ≡ wad_bytes (all_lumps (level_parts levels.now))) }
     ensures levels { IfOk result (λ built. All (λ l.
@@ -86,7 +115,10 @@ pub fn counted_wad(alloc: Global, levels: &[NamedLevel<'_>]) -> Result<BuiltWad,
         (map (λ x. built_view x.level) levels.now) (length built.bytes.items) built.counts) }
     ensures memory { IsOkUnless result BuildError.OutOfMemory }
 {
-    let bytes = wad_of_levels(alloc, levels)?;
-    let counts = counts_of(levels, bytes.len())?;
-    Ok(BuiltWad { bytes, counts })
+    let CountedLumps { lumps, counts } = counted_lumps(alloc, levels)?;
+    let mut bytes = Vec::with_capacity(alloc, counts.bytes as usize)?;
+    match write_pwad(&lumps, levels, &mut bytes) {
+        Ok(()) => Ok(BuiltWad { bytes, counts }),
+        Err(_) => Err(BuildError::OutOfMemory),
+    }
 }

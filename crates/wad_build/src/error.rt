@@ -3,7 +3,7 @@ ghost use Rattle.std.specs.Prelude.{◌≡◌, None};
 ghost use Rattle.wad_build.specs.Errors.{build_code_of};
 ghost use Rattle.wad_build.specs.declared.error.BuildError.TheVariants as build;
 
-use lump_records::{LumpError, Name8};
+use lump_records::Name8;
 use std::alloc::{AllocError, AllocFailed};
 use std::fmt;
 use thiserror::Error;
@@ -74,15 +74,6 @@ impl<T: Drop> From<AllocFailed<T>> for BuildError {
     }
 }
 
-// Encoding records fails only if memory runs out.
-impl From<LumpError> for BuildError {
-    ghost from_gives = { λ _ e. e ≡ build.OutOfMemory };
-
-    fn from(_e: LumpError) -> BuildError {
-        BuildError::OutOfMemory
-    }
-}
-
 /// Why the maps of a project can't be built, and which map is the cause.
 #[derive(Clone, Copy, Debug, PartialEq, Eq, Error)]
 #[error("{error}")]
@@ -101,4 +92,15 @@ impl<T: Drop> From<AllocFailed<T>> for Unbuilt {
             map: None,
         }
     }
+}
+
+/// Why the PWAD of a project's maps isn't written.
+#[derive(Clone, Copy, Debug, PartialEq, Eq, Error)]
+pub enum Unwritten {
+    /// A map can't be built, or memory runs out: nothing is written.
+    #[error(transparent)]
+    Build(Unbuilt),
+    /// The writer failed: any part of the PWAD may have been written.
+    #[error("the writer failed")]
+    Writer,
 }

@@ -6,15 +6,17 @@ ghost use Rattle.wad_build.specs.Counted.{IsBuildCounted};
 ghost use Rattle.wad_build.specs.Errors.{blamed};
 ghost use Rattle.wad_build.specs.Projects.{AreLevelsOf, Blames, HoldsOnly, IsLevelOf, IsRefusalOfAll, IsSoundBuildOfAll};
 ghost use Rattle.wad_build.specs.Sound.{CanBeBuilt, IsBuildRefusal};
+ghost use Rattle.wad_build.specs.Written.{IsWadWritten, RefusesWad};
 ghost use Rattle.wad_build.specs.declared.error.BuildError.TheVariants.{NothingToBuild};
 
 use crate::build::level_of_map;
-use crate::counted::{BuiltWad, counted_wad};
-use crate::error::{BuildError, Unbuilt};
-use crate::levels::NamedLevel;
+use crate::counted::{BuildCounts, BuiltWad, counted_lumps, counted_wad};
+use crate::error::{BuildError, Unbuilt, Unwritten};
+use crate::levels::{NamedLevel, write_pwad};
 use lump_records::Name8;
 use map_tables::{Map, Maps};
 use std::alloc::Global;
+use std::io::Write;
 
 // The refusal with the name of its map, or with no name if memory ran out.
 fn blamed(error: BuildError, name: Name8) -> Unbuilt
@@ -88,6 +90,41 @@ pub fn build_counted(alloc: Global, maps: &Maps) -> Result<BuiltWad, Unbuilt>
             error: BuildError::OutOfMemory,
             map: None,
         }),
+    }
+}
+
+/// Builds the levels of all maps of a project and writes their PWAD, that of `build_all`, lump by lump, so that it
+/// never stands in memory as a whole; and returns its counts. All memory is asked for before the first byte is written.
+///
+/// # Errors
+///
+/// `Build` with the refusal of `build_counted`, and nothing is written; or `Writer`.
+pub fn write_all<W: Write>(
+    alloc: Global,
+    maps: &Maps,
+    writer: &mut W,
+) -> Result<BuildCounts, Unwritten>
+    ensures written { IfOk result (λ counts. IsWadWritten (project_of maps.now).maps counts
+        (W.contents writer.old) (W.contents writer.new)) }
+    ensures buildable { OnOk result (All CanBeBuilt (project_of maps.now).maps) }
+    ensures refused { IfErr result (λ e. RefusesWad (project_of maps.now).maps e
+        (W.contents writer.old) (W.contents writer.new)) }
+    ensures nothing { (m : Tables) → slice_get (project_of maps.now).maps 0 ≡ Some m
+        → length m.lines ≡ 0 → result ≡ Err (Unwritten.Build (blamed NothingToBuild m.name)) }
+{
+    let levels = match levels_of(alloc, maps) {
+        Ok(levels) => levels,
+        Err(unbuilt) => return Err(Unwritten::Build(unbuilt)),
+    };
+    let Ok(counted) = counted_lumps(alloc, &levels) else {
+        return Err(Unwritten::Build(Unbuilt {
+            error: BuildError::OutOfMemory,
+            map: None,
+        }));
+    };
+    match write_pwad(&counted.lumps, &levels, writer) {
+        Ok(()) => Ok(counted.counts),
+        Err(_) => Err(Unwritten::Writer),
     }
 }
 

@@ -1,14 +1,14 @@
 -- A WAD that is written lump by lump: what its writer holds, and lumps that are appended one behind another.
-use Rattle.std.proofs.Common.{◌≡◌, ◌∙◌, refl, sym, ap, subst, ℕ, ◌+◌, ◌*◌, ◌-◌, ◌<◌, ◌≤◌, List, [], ◌∷◌, ◌++◌, length, map, take, drop, arith, append_assoc, length-append, append-nil, length-drop, take-append-drop, true}
-use Rattle.std.specs.Prelude.{flat_map, replicate, All}
+use Rattle.std.proofs.Common.{◌≡◌, ◌∙◌, refl, sym, ap, subst, ℕ, ◌+◌, ◌-◌, ◌≤◌, List, [], ◌∷◌, ◌++◌, length, map, take, drop, arith, append_assoc, length-append, append-nil, length-drop, take-append-drop, true}
+use Rattle.std.specs.Prelude.{flat_map}
 use Rattle.std.proofs.Math.Seq.{drop-append_seam, drop-append-add, take-append_seam}
 use Rattle.std.proofs.lemmas.Grind.{flat_map-append}
 use Rattle.std.proofs.lemmas.List.{drop-append-le, length-take-le, take-append-le, take_all}
 use Rattle.std.proofs.lemmas.List.Elements.{All-nil, All-push}
 use Rattle.lump_records.specs.declared.records.Name8.{Name8}
 use Rattle.wad_file.specs.DraftFields.{IsLaid, draft_in, lump_in}
-use Rattle.wad_file.specs.Drafts.{Draft, Puts, Takes, no_lumps}
-use Rattle.wad_file.specs.Lumps.{IsNamed8, Lump, all_bytes, entries_from, entry_bytes, long, wad_head, wad_of, wad_size}
+use Rattle.wad_file.specs.Drafts.{Draft, no_lumps}
+use Rattle.wad_file.specs.Lumps.{IsNamed8, Lump, all_bytes, entries_from, entry_bytes, long, wad_head, wad_of}
 use Rattle.wad_file.specs.declared.entry.Entry.{Entry}
 use Rattle.wad_file.specs.Directory.{is_kind}
 use Rattle.wad_file.proofs.DirectoryLemmas.{add_zero}
@@ -21,9 +21,6 @@ all_bytes-append xs ys = flat_map-append (λ (l : Lump). l.bytes) xs ys
 
 pub all_bytes-length : (xs ys : List Lump) → length (all_bytes (xs ++ ys)) ≡ length (all_bytes xs) + length (all_bytes ys)
 all_bytes-length xs ys = ap (λ (ws : List ℕ). length ws) (all_bytes-append xs ys) ∙ length-append (all_bytes xs) (all_bytes ys)
-
-pub wad_size-append : (xs ys : List Lump) → wad_size (xs ++ ys) ≡ wad_size xs + length (all_bytes ys) + 16 * length ys
-wad_size-append xs ys = let n = all_bytes-length xs ys in let m = length-append xs ys in omega (arith, n, m)
 
 entries_behind : (at : ℕ) (xs ys : List Lump) → entries_from at (xs ++ ys) ≡ entries_from at xs ++ entries_from (at + length (all_bytes xs)) ys
 entries_behind at [] ys = let z : at + 0 ≡ at = add_zero at in rw z refl
@@ -106,15 +103,6 @@ appended bytes more new entries at d l e =
       named = l.named;
     })
 
--- bytes that are filled up with zeros
-pub resized :
-    (bytes new : List ℕ) (len more end : ℕ) → length bytes ≡ len → end ≡ len → new ≡ take (end + more) bytes ++ replicate (end + more - len) 0
-    → new ≡ bytes ++ replicate more 0
-resized bytes new len more end l e n =
-    let rest : end + more - len ≡ more = omega (arith, e) in
-    n ∙ ap (λ (ws : List ℕ). ws ++ replicate (end + more - len) 0) (take_all (end + more) bytes (omega (arith, l, e)))
-    ∙ ap (λ (m : ℕ). bytes ++ replicate m 0) rest
-
 -- how long the bytes are
 pub laid_long : (bytes : List ℕ) (entries : List Entry) (at : ℕ) (d : Draft) → IsLaid bytes entries at d → length bytes ≡ at + length d.begun
 laid_long bytes entries at d l =
@@ -153,37 +141,6 @@ ended bytes entries new at size end name d l n e s is =
       at_is = omega (arith, e, long, here, n1);
       named = All-push IsNamed8 d.lumps lump l.named n;
     })
-
--- ---- lumps one behind another
-
--- these lumps are appended
-pub put_lumps : (a b : Draft) (xs : List Lump) → b.lumps ≡ a.lumps ++ xs → b.begun ≡ [] → Puts a b xs
-put_lumps a b xs e r = record { lumps_are = e; grows = ap wad_size e ∙ wad_size-append a.lumps xs; ready = r }
-
--- one list behind another
-pub put_both : (a b c : Draft) (xs ys : List Lump) → Puts a b xs → Puts b c ys → Puts a c (xs ++ ys)
-put_both a b c xs ys p q = put_lumps a c (xs ++ ys) (q.lumps_are ∙ ap (λ (ls : List Lump). ls ++ ys) p.lumps_are ∙ append_assoc a.lumps xs ys) q.ready
-
--- nothing is appended
-pub put_none : (a : Draft) → a.begun ≡ [] → Puts a a []
-put_none a r = put_lumps a a [] (sym (append-nil a.lumps)) r
-
--- what fits with others fits behind them
-pub takes_behind : (a b : Draft) (xs ys : List Lump) → Puts a b xs → Takes a (xs ++ ys) → Takes b ys
-takes_behind a b xs ys p t =
-    let n1 = p.grows in
-    let n2 = all_bytes-length xs ys in
-    let n3 = length-append xs ys in
-    let f = t.fits in
-    record { ready = p.ready; fits = omega (arith, n1, n2, n3, f) }
-
--- what fits with others fits before them
-pub takes_front : (a : Draft) (xs ys : List Lump) → Takes a (xs ++ ys) → Takes a xs
-takes_front a xs ys t =
-    let n2 = all_bytes-length xs ys in
-    let n3 = length-append xs ys in
-    let f = t.fits in
-    record { ready = t.ready; fits = omega (arith, n2, n3, f) }
 
 -- ---- the header
 

@@ -3,3 +3,4 @@ pub mod DirectoryLemmas
 pub mod WrittenLemmas
 pub mod DraftLemmas
 pub mod PlacedLemmas
+pub mod BufferLemmas

@@ -9,7 +9,7 @@ use Rattle.lump_records.specs.declared.records.Name8.{Name8}
 use Rattle.wad_file.specs.Directory.{is_kind}
 use Rattle.wad_file.specs.Listed.{AreListed, ArePut, IsPlaced8, IsPut, listed_content, listed_entry, listed_lump, lumps_listed}
 use Rattle.wad_file.specs.Lumps.{IsNamed8, Lump, all_bytes, entries_from, entry_bytes, long, wad_head, wad_of, wad_size}
-use Rattle.wad_file.specs.Placed.{AreContents, AtHand, Content, InSource, IsContent, IsCopied, IsListWritten, IsPartAt, Placed, content_over, content_size, lump_over, lumps_over, placed_bytes, placed_entries, placed_size}
+use Rattle.wad_file.specs.Placed.{AreContents, AtHand, Content, InSource, IsContent, IsCopied, IsListWritten, IsPartAt, Placed, content_over, content_size, lump_over, lumps_over, placed_bytes, placed_directory, placed_entries, placed_head, placed_size}
 use Rattle.wad_file.specs.declared.entry.Entry.{Entry}
 use Rattle.wad_file.specs.declared.list.ListedLump.{ListedLump}
 use Rattle.wad_file.proofs.DirectoryLemmas.{add_zero}
@@ -175,18 +175,44 @@ entries_listed : (xs : List ListedLump) → flat_map listed_entry xs ≡ flat_ma
 entries_listed [] = refl
 entries_listed (x ∷ xs) = ap (λ (bs : List ℕ). entry_bytes x.entry ++ bs) (entries_listed xs)
 
+-- the entries that a list keeps are those of the directory
+pub directory_listed : (xs ys : List ListedLump) (list : List Placed) (len : ℕ) → AreListed xs len → lumps_listed xs ≡ list → ys ≡ xs → flat_map listed_entry ys ≡ placed_directory list
+directory_listed xs ys list len i e y =
+    ap (flat_map listed_entry) y ∙ entries_listed xs ∙ ap (flat_map entry_bytes) i.entries_are ∙ ap (λ (ps : List Placed). placed_directory ps) e
+
+-- and its header
+pub head_listed : (kind : List ℕ) (xs : List ListedLump) (list : List Placed) (len count : ℕ) → AreListed xs len → lumps_listed xs ≡ list → count ≡ length xs
+    → kind ++ (long count ++ long (12 + len)) ≡ placed_head kind list
+head_listed kind xs list len count i e c =
+    let n : count ≡ length list = c ∙ sym (listed_long xs) ∙ ap (λ (ps : List Placed). length ps) e in
+    let m : len ≡ placed_bytes list = i.len_is ∙ ap placed_bytes e in
+    ap (λ (k : ℕ). kind ++ (long k ++ long (12 + len))) n ∙ ap (λ (k : ℕ). kind ++ (long (length list) ++ long (12 + k))) m
+
 -- header, lumps and directory are the WAD
-whole_is :
-    (source : Option (List ℕ)) (kind : List ℕ) (xs : List ListedLump) (ls : List Lump) (len count place : ℕ) → AreListed xs len → AreContents source (lumps_listed xs) ls → count ≡ length xs → place ≡ 12 + len
-    → (kind ++ (long count ++ long place)) ++ (all_bytes ls ++ flat_map listed_entry xs) ≡ wad_of kind ls
-whole_is source kind xs ls len count place i a c p =
-    let n : count ≡ length ls = c ∙ sym (listed_long xs) ∙ sym (contents_long source (lumps_listed xs) ls a) in
-    let m : place ≡ 12 + length (all_bytes ls) = p ∙ ap (λ (k : ℕ). 12 + k) (i.len_is ∙ sym (contents_bytes source (lumps_listed xs) ls a)) in
-    let head : kind ++ (long count ++ long place) ≡ wad_head kind ls =
-    ap (λ (k : ℕ). kind ++ (long k ++ long place)) n ∙ ap (λ (k : ℕ). kind ++ (long (length ls) ++ long k)) m in
-    ap (λ (h : List ℕ). h ++ (all_bytes ls ++ flat_map listed_entry xs)) head
-    ∙ ap (λ (d : List ℕ). wad_head kind ls ++ (all_bytes ls ++ d))
-    (entries_listed xs ∙ ap (flat_map entry_bytes) (i.entries_are ∙ contents_entries source 12 (lumps_listed xs) ls a))
+pub whole_is : (source : Option (List ℕ)) (kind : List ℕ) (list : List Placed) (ls : List Lump) → AreContents source list ls
+    → placed_head kind list ++ (all_bytes ls ++ placed_directory list) ≡ wad_of kind ls
+whole_is source kind list ls a =
+    let n = contents_long source list ls a in
+    let m = contents_bytes source list ls a in
+    let head : placed_head kind list ≡ wad_head kind ls =
+    ap (λ (k : ℕ). kind ++ (long k ++ long (12 + placed_bytes list))) (sym n) ∙ ap (λ (k : ℕ). kind ++ (long (length ls) ++ long (12 + k))) (sym m) in
+    ap (λ (h : List ℕ). h ++ (all_bytes ls ++ placed_directory list)) head
+    ∙ ap (λ (es : List Entry). wad_head kind ls ++ (all_bytes ls ++ flat_map entry_bytes es)) (contents_entries source 12 list ls a)
+
+-- so the WAD is written, part by part
+pub whole_written :
+    (source u v w x : Option (List ℕ)) (kind : List ℕ) (list : List Placed) (ls : List Lump) → AreContents source list ls → Appends u v (placed_head kind list) → Appends v w (all_bytes ls)
+    → Appends w x (placed_directory list) → Appends u x (wad_of kind ls)
+whole_written source u v w x kind list ls a head body directory =
+    subst (Appends u x) (whole_is source kind list ls a)
+    (Appends-trans u v x (placed_head kind list) (all_bytes ls ++ placed_directory list) head (Appends-trans v w x (all_bytes ls) (placed_directory list) body directory))
+
+-- its length is that of the list's WAD
+pub size_is : (source : Option (List ℕ)) (list : List Placed) (ls : List Lump) → AreContents source list ls → wad_size ls ≡ placed_size list
+size_is source list ls a =
+    let n1 = contents_long source list ls a in
+    let n2 = contents_bytes source list ls a in
+    omega (arith, n1, n2)
 
 entry_size : (e : Entry) → length e.name.bytes ≡ 8 → length (entry_bytes e) ≡ 16
 entry_size e h =
@@ -202,7 +228,7 @@ directory_size at (l ∷ lumps) named =
     let n3 = length-append (entry_bytes e) (flat_map entry_bytes (entries_from (at + length l.bytes) lumps)) in
     omega (arith, n1, n2, n3)
 
-wad_long : (kind : List ℕ) (lumps : List Lump) → is_kind kind ≡ true → All IsNamed8 lumps → length (wad_of kind lumps) ≡ wad_size lumps
+pub wad_long : (kind : List ℕ) (lumps : List Lump) → is_kind kind ≡ true → All IsNamed8 lumps → length (wad_of kind lumps) ≡ wad_size lumps
 wad_long kind lumps i named =
     let n1 = length-append (wad_head kind lumps) (all_bytes lumps ++ flat_map entry_bytes (entries_from 12 lumps)) in
     let n2 = length-append (all_bytes lumps) (flat_map entry_bytes (entries_from 12 lumps)) in
@@ -210,26 +236,20 @@ wad_long kind lumps i named =
     let n4 = length_head kind lumps (kind_long kind i) in
     omega (arith, n1, n2, n3, n4)
 
--- so it is written, part by part
+-- a list's WAD is written, part by part
 pub list_written :
-    (source u v w x : Option (List ℕ)) (kind : List ℕ) (xs ys zs : List ListedLump) (list : List Placed) (len count place : ℕ) → AreListed xs len → lumps_listed xs ≡ list
-    → count ≡ length xs → place ≡ 12 + len → ys ≡ xs → zs ≡ xs → is_kind kind ≡ true → placed_size list < 4294967296 → Appends u v (kind ++ (long count ++ long place))
-    → ArePut source (lumps_listed ys) v w → Appends w x (flat_map listed_entry zs) → IsListWritten source kind list u x
-list_written source u v w x kind xs ys zs list len count place i e c p y z k fits head body directory =
+    (source u v w x : Option (List ℕ)) (kind : List ℕ) (xs ys : List ListedLump) (list : List Placed) (len : ℕ) → AreListed xs len → lumps_listed xs ≡ list → ys ≡ xs → is_kind kind ≡ true
+    → placed_size list < 4294967296 → Appends u v (placed_head kind list) → ArePut source (lumps_listed ys) v w → Appends w x (placed_directory list) → IsListWritten source kind list u x
+list_written source u v w x kind xs ys list len i e y k fits head body directory =
     let b : ArePut source (lumps_listed xs) v w = subst (λ (ls : List ListedLump). ArePut source (lumps_listed ls) v w) y body in
-    let d : Appends w x (flat_map listed_entry xs) = subst (λ (ls : List ListedLump). Appends w x (flat_map listed_entry ls)) z directory in
     let ls = b.lumps in
     let a : AreContents source list ls = subst (λ (ps : List Placed). AreContents source ps ls) e b.are in
     let named : All IsNamed8 ls = contents_named source (lumps_listed xs) ls b.are i.named in
-    let n1 = contents_long source list ls a in
-    let n2 = contents_bytes source list ls a in
-    let s : wad_size ls ≡ placed_size list = omega (arith, n1, n2) in
+    let s : wad_size ls ≡ placed_size list = size_is source list ls a in
     record {
       lumps = ls;
       are = a;
-      put =
-          subst (Appends u x) (whole_is source kind xs ls len count place i b.are c p)
-          (Appends-trans u v x (kind ++ (long count ++ long place)) (all_bytes ls ++ flat_map listed_entry xs) head (Appends-trans v w x (all_bytes ls) (flat_map listed_entry xs) b.put d));
+      put = whole_written source u v w x kind list ls a head b.put directory;
       reads = is_wad_of kind ls (wad_of kind ls) (written kind ls k named (omega (arith, s, fits)));
       long = wad_long kind ls k named ∙ s;
     }

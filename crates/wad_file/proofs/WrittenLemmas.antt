@@ -12,7 +12,7 @@ use Rattle.std.proofs.lemmas.List.FromFn.{fill_by_all}
 use Rattle.lump_records.specs.declared.records.Name8.{Name8}
 use Rattle.wad_file.specs.Directory.{are_inside, directory_at, entry, entry_place, has_directory, is_kind, is_outside, is_wad, lump, lump_count, wad_refusal}
 use Rattle.wad_file.specs.Fields.{long_at, same_bytes}
-use Rattle.wad_file.specs.Lumps.{IsNamed8, IsWadOf, Lump, all_bytes, entries_from, entry_bytes, long, lump_at, lumps_in, wad_head, wad_of, wad_size}
+use Rattle.wad_file.specs.Lumps.{IsNamed8, IsWadOf, Lump, all_bytes, entries_from, entry_bytes, long, lump_at, wad_head, wad_of, wad_size}
 use Rattle.wad_file.specs.declared.entry.Entry.{Entry}
 use Rattle.wad_file.proofs.DirectoryLemmas.{add_zero}
 

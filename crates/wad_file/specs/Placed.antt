@@ -1,8 +1,8 @@
 -- The lumps of a WAD that is to be written: each is at hand, or stands at a place in a source.
-use Rattle.std.specs.Prelude.{◌≡◌, ℕ, ◌+◌, ◌*◌, List, [], ◌∷◌, length, map, take, drop, Option, None, Some}
+use Rattle.std.specs.Prelude.{◌≡◌, ℕ, ◌+◌, ◌*◌, List, [], ◌∷◌, ◌++◌, length, map, flat_map, take, drop, Option, None, Some}
 use Rattle.std.specs.Io.KnownBytes.{Appends}
 use Rattle.lump_records.specs.declared.records.Name8.{Name8}
-use Rattle.wad_file.specs.Lumps.{IsWadOf, Lump, wad_of}
+use Rattle.wad_file.specs.Lumps.{IsWadOf, Lump, entry_bytes, long, wad_of}
 use Rattle.wad_file.specs.declared.entry.Entry.{Entry}
 
 -- ---- what a source gives
@@ -32,6 +32,10 @@ pub record Placed : Type 0 where
   pub name : Name8
   pub content : Content
 
+-- a lump of so many bytes, wherever they come from
+abbrev pub sized : Name8 → ℕ → Placed
+sized name size = record { name = name; content = InSource 0 size }
+
 -- how many bytes it has
 abbrev pub content_size : Content → ℕ
 content_size (AtHand bytes) = length bytes
@@ -52,6 +56,14 @@ placed_entries at [] = []
 placed_entries at (p ∷ ps) =
     record { at = at; size = content_size p.content; name = p.name }
     ∷ placed_entries (at + content_size p.content) ps
+
+-- the header of a WAD of a kind with them
+abbrev pub placed_head : List ℕ → List Placed → List ℕ
+placed_head kind ps = kind ++ (long (length ps) ++ long (12 + placed_bytes ps))
+
+-- its directory
+abbrev pub placed_directory : List Placed → List ℕ
+placed_directory ps = flat_map entry_bytes (placed_entries 12 ps)
 
 -- ---- what they become
 

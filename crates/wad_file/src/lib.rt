@@ -1,6 +1,7 @@
 //! The container of a WAD: what its directory and its lumps are, and how one is written.
 #![tactic(auto)]
 
+mod buffer;
 mod entry;
 mod error;
 mod fields;
@@ -10,6 +11,7 @@ mod source;
 mod wad;
 mod writer;
 
+pub use buffer::{ByteBuffer, write_zeros};
 pub use entry::Entry;
 pub use error::{CopyFailed, SourceFailed, WadError};
 pub use fields::{long_at, name_at};

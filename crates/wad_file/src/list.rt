@@ -1,4 +1,5 @@
 //! The lumps of a new WAD, each at hand or at a place in a source, and how the WAD is written from there.
+use crate::buffer::ByteBuffer;
 use crate::entry::Entry;
 use crate::error::CopyFailed;
 use crate::source::{Source, copy_part};
@@ -131,19 +132,21 @@ fn write_entries<W: Write>(lumps: &[ListedLump<'_>], writer: &mut W) -> Result<(
         (Appends (W.contents writer.old) (W.contents writer.new)
         (flat_map listed_entry lumps.now)) }
 {
+    let mut buffer = ByteBuffer::new();
     for lump in lumps {
-        match writer.write_all(&bytes_of(&lump.entry)) {
+        match buffer.put(&bytes_of(&lump.entry), writer) {
             Ok(()) => {}
-            Err(_) => return Err(WriterFailed),
+            Err(error) => return Err(error),
         }
     }
-    Ok(())
+    buffer.send(writer)
 }
 
 impl<'a> LumpList<'a> {
     ghost use Rattle.std.specs.Prelude.{◌≡◌, ◌++◌, ◌+◌, ◌<◌, [], ◌∷◌, nat_le, length, true, OnOk, OnErr, IfOk};
     ghost use Rattle.wad_file.specs.Directory.{is_kind};
-    ghost use Rattle.wad_file.specs.Placed.{AtHand, InSource, IsListWritten, content_size, placed_size};
+    ghost use Rattle.std.specs.Io.KnownBytes.{Appends};
+    ghost use Rattle.wad_file.specs.Placed.{AtHand, InSource, IsListWritten, content_size, placed_directory, placed_head, placed_size, sized};
 
     /// Begins a list, with memory for `count` lumps: if they are enough, the list isn't moved later.
     pub fn begin(alloc: Global, count: usize) -> Result<LumpList<'a>, AllocError>
@@ -205,12 +208,41 @@ impl<'a> LumpList<'a> {
         self.list(name, ListedContent::InSource(at, size), size)
     }
 
+    /// Appends a lump of `size` bytes that the caller writes. Such a list is for `write_header` and `write_directory`.
+    pub fn push_sized(&mut self, name: Name8, size: u32) -> Result<(), AllocError>
+        requires { placed_size self.old + size + 16 < 4294967296 }
+        ensures ok { OnOk result (self.new ≡ self.old ++ sized name size ∷ []) }
+        ensures err { OnErr result (self.new ≡ self.old) }
+    {
+        self.push_part(name, 0, size)
+    }
+
     /// How many bytes the WAD has.
     pub fn size(&self) -> u64
         requires { placed_size self.now < 4294967296 }
         ensures { result ≡ placed_size self.now }
     {
         12 + self.len + 16 * self.lumps.len() as u64
+    }
+
+    /// Writes the header of the WAD of a kind. Its lumps stand behind it.
+    pub fn write_header<W: Write>(&self, kind: &[u8], writer: &mut W) -> Result<(), WriterFailed>
+        requires { placed_size self.now < 4294967296 }
+        ensures { OnOk result
+            (Appends (W.contents writer.old) (W.contents writer.new)
+            (placed_head kind.now self.now)) }
+    {
+        let place = (12 + self.len) as u32;
+        write_head(kind, self.lumps.len() as u32, place, writer)
+    }
+
+    /// Writes the directory of the WAD, which stands behind its lumps.
+    pub fn write_directory<W: Write>(&self, writer: &mut W) -> Result<(), WriterFailed>
+        ensures { OnOk result
+            (Appends (W.contents writer.old) (W.contents writer.new)
+            (placed_directory self.now)) }
+    {
+        write_entries(&self.lumps, writer)
     }
 
     /// Writes the WAD of a kind, IWAD or PWAD: its header, its lumps, and its directory. Each lump reads back. A lump
@@ -231,10 +263,9 @@ impl<'a> LumpList<'a> {
             (IsListWritten (S.known_bytes source.old) kind.now self.now
             (W.contents writer.old) (W.contents writer.new)) }
     {
-        let place = (12 + self.len) as u32;
-        write_head(kind, self.lumps.len() as u32, place, writer)?;
+        self.write_header(kind, writer)?;
         write_lumps(&self.lumps, source, writer)?;
-        write_entries(&self.lumps, writer)?;
+        self.write_directory(writer)?;
         Ok(())
     }
 }

@@ -2,6 +2,7 @@
 ghost use Rattle.std.specs.Prelude.{◌≡◌, ◌+◌, ◌<◌, ◌^◌, length, List, ℕ, Option, OnOk};
 ghost use Rattle.wad_file.specs.Placed.{IsCopied, IsPartAt};
 
+use crate::buffer::ROOM;
 use crate::error::{CopyFailed, SourceFailed};
 use std::io::Write;
 
@@ -37,32 +38,29 @@ impl Source for &[u8] {
     }
 }
 
-// How many bytes are copied at once.
-const PIECE: usize = 8192;
-
-// Copies the bytes from `at` on, as many as `piece` has.
-fn copy_piece<S: Source, W: Write>(
+// Copies the bytes from `at` on, as many as `bytes` has.
+fn copy_bytes<S: Source, W: Write>(
     source: &mut S,
     at: u64,
-    piece: &mut [u8],
+    bytes: &mut [u8],
     writer: &mut W,
 ) -> Result<(), CopyFailed>
     ensures copied { OnOk result
-        (IsCopied (S.known_bytes source.old) at (length piece.old)
+        (IsCopied (S.known_bytes source.old) at (length bytes.old)
         (W.contents writer.old) (W.contents writer.new)) }
     ensures stays { S.known_bytes source.new ≡ S.known_bytes source.old }
 {
-    match source.fill_from(at, &mut *piece) {
+    match source.fill_from(at, &mut *bytes) {
         Ok(()) => {}
         Err(_) => return Err(CopyFailed::Source),
     }
-    match writer.write_all(piece) {
+    match writer.write_all(bytes) {
         Ok(()) => Ok(()),
         Err(_) => Err(CopyFailed::Writer),
     }
 }
 
-/// Copies `len` bytes from `at` on, in pieces.
+/// Copies `len` bytes from `at` on, some KB at a time.
 ///
 /// # Errors
 ///
@@ -78,18 +76,18 @@ pub fn copy_part<S: Source, W: Write>(
         (W.contents writer.old) (W.contents writer.new)) }
     ensures stays { S.known_bytes source.new ≡ S.known_bytes source.old }
 {
-    let mut buffer = [0; PIECE];
+    let mut buffer = [0; ROOM];
     let at = at as u64;
     let len = len as usize;
-    let pieces = len / PIECE;
-    for k in 0..pieces {
-        match copy_piece(source, at + (k * PIECE) as u64, &mut buffer, writer) {
+    let times = len / ROOM;
+    for k in 0..times {
+        match copy_bytes(source, at + (k * ROOM) as u64, &mut buffer, writer) {
             Ok(()) => {}
             Err(error) => return Err(error),
         }
     }
-    let rest = &mut buffer[..len % PIECE];
-    match copy_piece(source, at + (pieces * PIECE) as u64, rest, writer) {
+    let rest = &mut buffer[..len % ROOM];
+    match copy_bytes(source, at + (times * ROOM) as u64, rest, writer) {
         Ok(()) => Ok(()),
         Err(error) => Err(error),
     }

@@ -80,7 +80,7 @@ fn write_over(bytes: &mut [u8], head: &[u8])
 }
 
 impl WadWriter {
-    ghost use Rattle.std.specs.Prelude.{◌≡◌, ◌++◌, ◌+◌, ◌<◌, [], ◌∷◌, nat_le, replicate, length, true, OnErr, OnOk, IfOk};
+    ghost use Rattle.std.specs.Prelude.{◌≡◌, ◌++◌, ◌+◌, ◌<◌, [], ◌∷◌, nat_le, length, true, OnErr, OnOk, IfOk};
     ghost use Rattle.wad_file.specs.Directory.{is_kind};
     ghost use Rattle.wad_file.specs.Drafts.{Puts, Takes, no_lumps};
     ghost use Rattle.wad_file.specs.Lumps.{IsWadOf, wad_of, wad_size};
@@ -150,28 +150,6 @@ impl WadWriter {
     {
         self.append(bytes)?;
         self.end_lump(name)?;
-        Ok(())
-    }
-
-    /// Appends a lump of `len` zero bytes.
-    pub fn push_zeros(&mut self, name: Name8, len: usize) -> Result<(), AllocError>
-        requires { Takes self.old (record { name = name; bytes = replicate len 0 } ∷ []) }
-        ensures { OnOk result
-            (Puts self.old self.new (record { name = name; bytes = replicate len 0 } ∷ [])) }
-    {
-        self.append_zeros(len)?;
-        self.end_lump(name)?;
-        Ok(())
-    }
-
-    // Appends zeros to the lump that is begun.
-    fn append_zeros(&mut self, len: usize) -> Result<(), AllocError>
-        requires { wad_size self.old.lumps + length self.old.begun + len < 4294967296 }
-        ensures { OnOk result
-            (self.new ≡ record self.old { begun = self.old.begun ++ replicate len 0 }) }
-    {
-        let end = self.bytes.len() + len;
-        self.bytes.resize(end, 0)?;
         Ok(())
     }
 

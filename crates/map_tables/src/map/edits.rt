@@ -64,7 +64,8 @@ impl Map {
     }
 
     // Adds an item, and returns its number.
-    fn add(&mut self, item: Item) -> Result<u32, MapError>
+    #[inline(always)]
+    pub(crate) fn add(&mut self, item: Item) -> Result<u32, MapError>
         requires { IsItem item }
         ensures edit { EndsEdit result
             (added self.old.tables item) self.old.tables self.new.tables }
@@ -73,14 +74,17 @@ impl Map {
         ensures spare { Spends (one_of (kind_of_item item)) self.old.spare self.new.spare }
         ensures places { Covers self.old.spare (one_of (kind_of_item item))
             → places self.new.tables self.new.spare ≡ places self.old.tables self.old.spare }
+        ensures well_formed { WellFormed self.new.tables }
     {
-        match item {
+        let outcome = match item {
             Item::Vertex(vertex) => self.add_vertex(vertex),
             Item::Sector(sector) => self.add_sector(sector),
             Item::Side(side) => self.add_side(side),
             Item::Line(line) => self.add_line(line),
             Item::Thing(thing) => self.add_thing(thing),
-        }
+        };
+        let _ = &self.things;
+        outcome
     }
 
     // Replaces the item with the number.

@@ -61,6 +61,7 @@ impl Map {
 
     // Whether a line can be added, memory aside: `NoVertex`, `NoSide`, `SameEnds`,
     // `TwoSidedWithoutLeft`, `TableFull`, `LineTooLong`.
+    #[inline(always)]
     pub(crate) fn can_add_line(&self, line: Line) -> Result<(), MapError>
         ensures { Tells result (line_faults self.now.tables line) }
     {
@@ -76,6 +77,7 @@ impl Map {
     }
 
     /// Adds a line, and returns its number.
+    #[inline(always)]
     pub fn add_line(&mut self, line: Line) -> Result<u32, MapError>
         requires { IsLine line }
         ensures edit { EndsEdit result

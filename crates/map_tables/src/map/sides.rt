@@ -65,6 +65,7 @@ impl Map {
     }
 
     /// Adds a side, and returns its number.
+    #[inline(always)]
     pub fn add_side(&mut self, side: Side) -> Result<u32, MapError>
         requires { IsSide side }
         ensures edit { EndsEdit result

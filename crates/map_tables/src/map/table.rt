@@ -191,6 +191,7 @@ impl<T: Copy> Table<T> {
     }
 
     // Appends an item, under a new key. It allocates no memory if there is a spare place.
+    #[inline(always)]
     pub(super) fn push(&mut self, item: T) -> Result<(), MapError>
         requires few { length self.old.items ≤ 32767 }
         ensures items { self.new.items

@@ -117,6 +117,7 @@ impl Map {
     }
 
     /// Adds a vertex, and returns its number.
+    #[inline(always)]
     pub fn add_vertex(&mut self, vertex: Vertex) -> Result<u32, MapError>
         requires { IsVertex vertex }
         ensures edit { EndsEdit result

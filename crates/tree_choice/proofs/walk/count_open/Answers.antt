@@ -6,14 +6,12 @@ use Rattle.tree_pieces.specs.Pieces.{IsPiece, first_end, last_end}
 use Rattle.tree_pieces.proofs.Stops.{Counted, cost_at_least}
 use Rattle.tree_choice.specs.Counts.{AreCounts}
 use Rattle.tree_choice.specs.Sorting.{pieces_in}
-use Rattle.tree_choice.proofs.Best.{cost_small}
-use Rattle.tree_choice.proofs.BlockSteps.{part_length}
 use Rattle.tree_choice.proofs.BoxLemmas.{block_is}
 use Rattle.tree_choice.proofs.Columns.{part_column, column_length}
 use Rattle.tree_choice.proofs.OneMore.{counted_all}
 use Rattle.tree_choice.proofs.OpenBlocks.{open_left, all_length, counted_few, begins, open_counted, open_rest, none_open}
 use Rattle.tree_choice.proofs.walk.count_open.Goals as goal
-use Rattle.tree_choice.proofs.walk.count_open.Goals.{In-Some, After-plus-counts}
+use Rattle.tree_choice.proofs.walk.count_open.Goals.{After-count_block}
 
 -- an open block begins in the list
 pub slice_bounds-block-count : goal.slice_bounds-block-count
@@ -69,17 +67,6 @@ returns-then-limit-least_cost c =
     let t = c.if-limit-least_cost.true in
     omega arith
 
--- no block costs so much
-pub returns-in-None : goal.returns-in-None
-returns-in-None c =
-    let from = 16 * get_or c.args.noted.now c.loop-n.n 0 in
-    let block = take (c.min-end.result - from) (drop from c.args.list.now.pieces.now) in
-    let d = cost_small c.args.by.now.lines.now c.args.by.now.piece.now block in
-    let l = part_length c.args.list.now.pieces.now from (c.min-end.result - from) in
-    let e = c.min-end.ensures in
-    let n = c.in-None.ensures in
-    absurd (omega arith)
-
 pub loop-n-init : goal.loop-n-init
 loop-n-init c =
     let lines = c.args.by.now.lines.now in
@@ -90,8 +77,8 @@ loop-n-init c =
     let l = all_length lines p ps s noted c.requires.is in
     record { counted = open_left lines p ps s noted c.requires.is; rest = omega arith; most = omega arith }
 
-pub count_list-requires-clause-list : goal.count_list-requires-clause-list
-count_list-requires-clause-list c =
+pub count_block-requires-clause-list : goal.count_block-requires-clause-list
+count_block-requires-clause-list c =
     let lines = c.args.by.now.lines.now in
     let ps = c.args.list.now.pieces.now in
     let from = 16 * get_or c.args.noted.now c.loop-n.n 0 in
@@ -106,18 +93,18 @@ count_list-requires-clause-list c =
     }
 
 -- what is known once the next open block is counted
-record Next (c : In-Some) : Type 0 where
+record Next (c : After-count_block) : Type 0 where
   counted : Counted c.args.by.now.lines.now c.args.by.now.piece.now c.args.list.now.pieces.now
       (pieces_in c.args.list.now.pieces.now (drop (c.loop-n.n + 1) (take c.args.sorted.count c.args.noted.now)))
-      (c.loop-n.counts.right + c.in-Some.more.right) (c.loop-n.counts.left + c.in-Some.more.left)
-      (c.loop-n.counts.splits + c.in-Some.more.splits)
-  right : c.loop-n.counts.right + c.in-Some.more.right < 2 ^ 32
-  left : c.loop-n.counts.left + c.in-Some.more.left < 2 ^ 32
-  splits : c.loop-n.counts.splits + c.in-Some.more.splits < 2 ^ 32
+      (c.loop-n.counts.right + c.count_block.result.right) (c.loop-n.counts.left + c.count_block.result.left)
+      (c.loop-n.counts.splits + c.count_block.result.splits)
+  right : c.loop-n.counts.right + c.count_block.result.right < 2 ^ 32
+  left : c.loop-n.counts.left + c.count_block.result.left < 2 ^ 32
+  splits : c.loop-n.counts.splits + c.count_block.result.splits < 2 ^ 32
   rest : c.loop-n.rest ≡ (c.min-end.result - 16 * get_or c.args.noted.now c.loop-n.n 0) + length (pieces_in c.args.list.now.pieces.now (drop (c.loop-n.n + 1) (take c.args.sorted.count c.args.noted.now)))
   forward : 16 * get_or c.args.noted.now c.loop-n.n 0 ≤ c.min-end.result
 
-next : (c : In-Some) → Next c
+next : (c : After-count_block) → Next c
 next c =
     let lines = c.args.by.now.lines.now in
     let p = c.args.by.now.piece.now in
@@ -131,8 +118,8 @@ next c =
     let e = c.min-end.ensures in
     let room = c.requires.is.few in
     let same = block_is ps k c.min-end.result (omega arith) e in
-    let a = subst (λ (qs : List Piece). AreCounts lines p qs c.in-Some.more) same c.in-Some.ensures in
-    let counted = open_counted lines p ps m n noted c.loop-n.counts.right c.loop-n.counts.left c.loop-n.counts.splits c.in-Some.more c.loop-n-test.true room i.counted a in
+    let a = subst (λ (qs : List Piece). AreCounts lines p qs c.count_block.result) same c.count_block.ensures in
+    let counted = open_counted lines p ps m n noted c.loop-n.counts.right c.loop-n.counts.left c.loop-n.counts.splits c.count_block.result c.loop-n-test.true room i.counted a in
     let few = counted_few lines p ps _ _ _ _ counted in
     let fr = few.right in
     let fl = few.left in
@@ -145,26 +132,26 @@ next c =
     record { counted = counted; right = omega arith; left = omega arith; splits = omega arith; rest = omega arith; forward = omega arith }
 
 pub plus-counts-requires-clause-right : goal.plus-counts-requires-clause-right
-plus-counts-requires-clause-right c = (next (goal.at.plus-counts-requires-clause-right c).In-Some).right
+plus-counts-requires-clause-right c = (next (goal.at.plus-counts-requires-clause-right c).After-count_block).right
 
 pub plus-counts-requires-clause-left : goal.plus-counts-requires-clause-left
-plus-counts-requires-clause-left c = (next (goal.at.plus-counts-requires-clause-left c).In-Some).left
+plus-counts-requires-clause-left c = (next (goal.at.plus-counts-requires-clause-left c).After-count_block).left
 
 pub plus-counts-requires-clause-splits : goal.plus-counts-requires-clause-splits
-plus-counts-requires-clause-splits c = (next (goal.at.plus-counts-requires-clause-splits c).In-Some).splits
+plus-counts-requires-clause-splits c = (next (goal.at.plus-counts-requires-clause-splits c).After-count_block).splits
 
 pub overflow_sub-rest-in-loop-n : goal.overflow_sub-rest-in-loop-n
-overflow_sub-rest-in-loop-n c = (next (goal.at.overflow_sub-rest-in-loop-n c).In-Some).forward
+overflow_sub-rest-in-loop-n c = (next (goal.at.overflow_sub-rest-in-loop-n c).After-count_block).forward
 
 pub overflow_sub-rest-in-loop-n-2 : goal.overflow_sub-rest-in-loop-n-2
-overflow_sub-rest-in-loop-n-2 c = let r = (next (goal.at.overflow_sub-rest-in-loop-n-2 c).In-Some).rest in omega arith
+overflow_sub-rest-in-loop-n-2 c = let r = (next (goal.at.overflow_sub-rest-in-loop-n-2 c).After-count_block).rest in omega arith
 
 pub overflow_cast-rest-in-loop-n : goal.overflow_cast-rest-in-loop-n
 overflow_cast-rest-in-loop-n c = let m = c.loop-n.invariant.most in let f = c.requires.few in omega arith
 
 pub returns-then-limit-least_cost-2 : goal.returns-then-limit-least_cost-2
 returns-then-limit-least_cost-2 c =
-    let x = next (goal.at.returns-then-limit-least_cost-2 c).In-Some in
+    let x = next (goal.at.returns-then-limit-least_cost-2 c).After-count_block in
     let r = x.rest in
     let e = c.plus-counts.ensures in
     let er = e.right in
@@ -175,7 +162,7 @@ returns-then-limit-least_cost-2 c =
 
 pub loop-n-preserved : goal.loop-n-preserved
 loop-n-preserved c =
-    let x = next (goal.at.loop-n-preserved c).In-Some in
+    let x = next (goal.at.loop-n-preserved c).After-count_block in
     let r = x.rest in
     let k = x.counted in
     let kr = k.right in

@@ -23,29 +23,15 @@ by_side : (lines : List Edge) (h q : Piece) (right : Bool)
 by_side lines h q true f g c s r l = piece_counts lines h q _ c (f refl) r l s
 by_side lines h q false f g c s r l = piece_counts lines h q _ c (g refl) r l s
 
-pub lies_right-right-requires-clause-together : goal.lies_right-right-requires-clause-together
-lies_right-right-requires-clause-together c = sym c.are_apart.ensures ∙ c.if-are_apart.false
-
-pub returns : goal.returns
-returns c =
+pub returns-in-Some : goal.returns-in-Some
+returns-in-Some c =
     let lines = c.args.by.now.lines.now in
     let h = c.args.by.now.piece.now in
     let q = c.args.piece.now in
     let r = c.args.by.now.margins.ray in
-    let e = c.line_of-edge.result in
     let own = c.line_of-edge.ensures.line in
-    let a = c.value_at-first.result in
-    let b = c.value_at-last.result in
-    let z = c.dot_of-direction.result in
-    let fa : FitsSigned w64 a = search rules in
-    let fb : FitsSigned w64 b = search rules in
-    let fz : FitsSigned w64 z = search rules in
-    let o = c.lies_right-right.ensures in
-    let ok : HasFractions q = record { from = c.requires.piece.from_in; to = c.requires.piece.to_in; rising = c.requires.piece.rising } in
-    let d : z ≡ dot r (ray e q.side) = c.dot_of-direction.ensures ∙ ap (dot r) c.ray_of-own.ensures.ray in
-    by_side lines h q c.lies_right-right.result
-    (λ t. let n = simp (to_z-of_z w64 a fa, to_z-of_z w64 b fb, to_z-of_z w64 z fz) at o.right t in
-    parts_by_place lines h q r Right c.requires.candidate.ray (sym (whole_right r e q ok a b z c.value_at-first.ensures.value c.value_at-last.ensures.value d n) ∙ ap (λ (x : Edge). place_on r x q) own))
-    (λ t. let n = simp (to_z-of_z w64 a fa, to_z-of_z w64 b fb, to_z-of_z w64 z fz) at o.left t in
-    parts_by_place lines h q r Left c.requires.candidate.ray (sym (whole_left r e q ok a b z c.value_at-first.ensures.value c.value_at-last.ensures.value d n) ∙ ap (λ (x : Edge). place_on r x q) own))
+    let o = c.side_of_line.ensures in
+    by_side lines h q c.in-Some.right
+    (λ t. parts_by_place lines h q r Right c.requires.candidate.ray (sym (o.right (c.in-Some.is ∙ ap Some t)) ∙ ap (λ (x : Edge). place_on r x q) own))
+    (λ t. parts_by_place lines h q r Left c.requires.candidate.ray (sym (o.left (c.in-Some.is ∙ ap Some t)) ∙ ap (λ (x : Edge). place_on r x q) own))
     _ refl refl refl

@@ -13,7 +13,7 @@ grow_next-requires c =
       list = c.args.list;
       lists = made.lists;
       divisible = record {
-        reached = subst (λ (u : Vec Bool Global). IsReached c.args.lines.now u.items c.args.list.pieces.items) (sym made.used) c.requires.reached;
+        reached = subst (λ (u : Vec Bool Global). IsReached c.args.lines.now u.items c.args.list.value.ended.pieces.items) (sym made.used) c.requires.reached;
         listed = c.requires.placed;
         some = c.requires.some;
         few = c.requires.few;
@@ -25,12 +25,12 @@ pub returns-in-Err-grow_next-clause-refused : goal.returns-in-Err-grow_next-clau
 returns-in-Err-grow_next-clause-refused c =
     let made = c.in-Ok.ensures in
     let r = c.in-Err-grow_next.ensures.refused [] c.args.list made.lists in
-    subst (λ (g : Grown). IsRefused c.args.lines.now c.args.list.pieces.items c.args.used.items c.args.room (lists_of g) c.in-Err-grow_next.error) made.grown
-    (subst (λ (u : Vec Bool Global). IsRefused c.args.lines.now c.args.list.pieces.items u.items c.args.room (lists_of c.in-Ok.tree.grown) c.in-Err-grow_next.error) made.used r)
+    subst (λ (g : Grown). IsRefused c.args.lines.now c.args.list.value.ended.pieces.items c.args.used.items c.args.room (lists_of g) c.in-Err-grow_next.error) made.grown
+    (subst (λ (u : Vec Bool Global). IsRefused c.args.lines.now c.args.list.value.ended.pieces.items u.items c.args.room (lists_of c.in-Ok.tree.grown) c.in-Err-grow_next.error) made.used r)
 
 pub returns-in-Ok-grow_next-clause-ok : goal.returns-in-Ok-grow_next-clause-ok
 returns-in-Ok-grow_next-clause-ok c =
     let made = c.in-Ok.ensures in
     let r = c.in-Ok-grow_next.ensures.ok [] c.args.list made.lists in
-    subst (λ (g : Grown). HasGrownTree c.args.lines.now c.args.list.pieces.items c.args.used.items c.args.room (lists_of g) (lists_of c.grow_next.new.tree.grown)) made.grown
-    (subst (λ (u : Vec Bool Global). HasGrownTree c.args.lines.now c.args.list.pieces.items u.items c.args.room (lists_of c.in-Ok.tree.grown) (lists_of c.grow_next.new.tree.grown)) made.used (r.child, r.grown))
+    subst (λ (g : Grown). HasGrownTree c.args.lines.now c.args.list.value.ended.pieces.items c.args.used.items c.args.room (lists_of g) (lists_of c.grow_next.new.tree.grown)) made.grown
+    (subst (λ (u : Vec Bool Global). HasGrownTree c.args.lines.now c.args.list.value.ended.pieces.items u.items c.args.room (lists_of c.in-Ok.tree.grown) (lists_of c.grow_next.new.tree.grown)) made.used (r.child, r.grown))

@@ -1,10 +1,15 @@
 use Rattle.wad_build.specs.Views.{built_view}
 use Rattle.wad_build.specs.declared.error.BuildError.TheVariants as build
-use Rattle.wad_build.proofs.SoundLemmas.{sound_build, holds_one, parts_of_level, buildable, built_some, memory_some}
+use Rattle.wad_build.proofs.LengthLemmas.{lengths}
+use Rattle.wad_build.proofs.SoundLemmas.{level_writable, sound_build, holds_one, parts_of_level, buildable, built_some, memory_some}
 use Rattle.wad_build.proofs.build.build_wad.Goals as goal
 
-pub wad_of_level-requires : goal.wad_of_level-requires
-wad_of_level-requires c =
+pub wad_of_level-requires-clause-sized : goal.wad_of_level-requires-clause-sized
+wad_of_level-requires-clause-sized c =
+    lengths (built_view c.in-Ok.level) (level_writable c.args.map.now.tables (built_view c.in-Ok.level) c.in-Ok.ensures.level)
+
+pub wad_of_level-requires-clause-parts : goal.wad_of_level-requires-clause-parts
+wad_of_level-requires-clause-parts c =
     parts_of_level c.args.map.now.tables (built_view c.in-Ok.level) c.name.result c.name.ensures c.in-Ok.ensures.level
 
 pub returns-in-Ok-wad_of_level-clause-sound : goal.returns-in-Ok-wad_of_level-clause-sound

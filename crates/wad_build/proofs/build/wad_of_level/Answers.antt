@@ -8,4 +8,4 @@ use Rattle.wad_build.proofs.build.wad_of_level.Goals as goal
 
 pub returns-in-Ok-clause-level : goal.returns-in-Ok-clause-level
 returns-in-Ok-clause-level c =
-    All-head (λ (l : NamedLevel). IsLevel c.in-Ok.wad.items (name_text l.name) (built_view l.level)) (record { name = c.args.name; level = c.args.level }) [] c.in-Ok.ensures.levels
+    All-head (λ (l : NamedLevel). IsLevel c.in-Ok.built.bytes.items (name_text l.name) (built_view l.level)) (record { name = c.args.name; level = c.args.level }) [] c.in-Ok.ensures.levels

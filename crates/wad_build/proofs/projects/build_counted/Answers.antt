@@ -10,12 +10,18 @@ use Rattle.wad_build.specs.Views.{built_view, level_parts}
 use Rattle.wad_build.specs.Wad.{AreParts, all_lumps, wad_bytes}
 use Rattle.wad_build.specs.Errors.{blamed}
 use Rattle.wad_build.specs.declared.error.BuildError.TheVariants as build
+use Rattle.wad_build.proofs.LevelLemmas.{IsSizedLevel}
 use Rattle.wad_build.proofs.CountedLemmas.{is_counted, views_in}
-use Rattle.wad_build.proofs.ProjectLemmas.{unbuilt_too, one_wad, all_sound, all_buildable, holds_only}
+use Rattle.wad_build.proofs.ProjectLemmas.{levels_sized, unbuilt_too, one_wad, all_sound, all_buildable, holds_only}
 use Rattle.wad_build.proofs.projects.build_counted.Goals as goal
 
-pub counted_wad-requires : goal.counted_wad-requires
-counted_wad-requires c =
+pub counted_wad-requires-clause-sized : goal.counted_wad-requires-clause-sized
+counted_wad-requires-clause-sized c =
+    subst (λ (xs : List NamedLevel). All IsSizedLevel xs) (sym c.deref.ensures.value)
+    (levels_sized (project_of c.args.maps.now).maps c.in-Ok.levels.items c.in-Ok.ensures.levels)
+
+pub counted_wad-requires-clause-parts : goal.counted_wad-requires-clause-parts
+counted_wad-requires-clause-parts c =
     subst (λ (xs : List NamedLevel). AreParts (level_parts xs)) (sym c.deref.ensures.value)
     (one_wad (project_of c.args.maps.now) c.in-Ok.levels.items empty_tables c.in-Ok.ensures.well_formed c.in-Ok.ensures.levels)
 

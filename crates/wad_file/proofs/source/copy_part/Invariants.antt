@@ -1,4 +1,4 @@
--- The pieces so far are copied.
+-- The bytes so far are copied.
 use Rattle.std.proofs.Common.{◌≡◌, ◌*◌, length}
 use Rattle.wad_file.specs.Placed.{IsCopied}
 use Rattle.wad_file.proofs.source.copy_part.Given as goal

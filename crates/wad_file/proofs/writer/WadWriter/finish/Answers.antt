@@ -1,4 +1,4 @@
-use Rattle.std.proofs.Common.{◌≡◌, ◌∙◌, ◌<◌, ◌++◌, ap, drop, length, subst, sym, take, arith, List, ℕ, flat_map}
+use Rattle.std.proofs.Common.{◌∙◌, ◌<◌, ◌++◌, ap, drop, length, subst, sym, take, arith, List, ℕ, flat_map}
 use Rattle.std.specs.Prelude.{All}
 use Rattle.wad_file.specs.DraftFields.{draft_of}
 use Rattle.wad_file.specs.Drafts.{Draft}

@@ -1,0 +1,9 @@
+-- The segs so far are written or held.
+use Rattle.std.specs.Io.KnownBytes.{append_known}
+use Rattle.lump_records.specs.Records.{seg_at, seg_record}
+use Rattle.wad_build.proofs.CopyLemmas.{Encodes}
+use Rattle.wad_build.proofs.lists.write_segs.Given as goal
+
+abbrev pub invariant-loop-n : goal.invariant-loop-n
+invariant-loop-n g l =
+    Encodes seg_at seg_record 12 l.segs l.n (g.W.Write.contents l.fn.writer) (append_known (g.W.Write.contents l.writer) l.buffer)

@@ -1,0 +1,9 @@
+-- The subsectors so far are written or held.
+use Rattle.std.specs.Io.KnownBytes.{append_known}
+use Rattle.lump_records.specs.Records.{sub_at, sub_record}
+use Rattle.wad_build.proofs.CopyLemmas.{Encodes}
+use Rattle.wad_build.proofs.lists.write_subs.Given as goal
+
+abbrev pub invariant-loop-n : goal.invariant-loop-n
+invariant-loop-n g l =
+    Encodes sub_at sub_record 4 l.subs l.n (g.W.Write.contents l.fn.writer) (append_known (g.W.Write.contents l.writer) l.buffer)
