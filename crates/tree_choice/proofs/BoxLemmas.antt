@@ -105,7 +105,7 @@ pub record AreFirstBlocks (lines : List Edge) (ps : List Piece) (blocks : List B
   pub holds : (k : ℕ) (b : Bounds) → slice_get blocks k ≡ Some b → All (HoldsPiece lines b) (take 16 (drop (16 * k) ps))
 
 -- what stands in a list with one more element
-stands_in : {X : Type 0} (xs : List X) (y : X) (k : ℕ) (x : X) → slice_get (xs ++ (y ∷ [])) k ≡ Some x
+pub stands_in : {X : Type 0} (xs : List X) (y : X) (k : ℕ) (x : X) → slice_get (xs ++ (y ∷ [])) k ≡ Some x
     → (P : ℕ → X → Type 0) → ((j : ℕ) (z : X) → slice_get xs j ≡ Some z → P j z) → P (length xs) y → P k x
 stands_in [] y zero x e P f g = let s : y ≡ x = cc in subst (P zero) s g
 stands_in [] y (suc k) x e P f g = cc

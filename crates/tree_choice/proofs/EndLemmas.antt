@@ -37,10 +37,10 @@ exact_left : (r : Ray) (e : Edge) (t : Frac) → IsFraction t → IsWellLeft r (
 exact_left r e t f h = by_lt_z (exact_value r e t) (pos 0) (λ k. k) (λ k. let n = near_right r e t f.positive k in absurd (omega (arith, linear)))
 
 -- signs decide the place
-right_by_signs : (u w z : ℤ) → pos 0 <ℤ u → pos 0 <ℤ w → place_by u w z ≡ Right
+pub right_by_signs : (u w z : ℤ) → pos 0 <ℤ u → pos 0 <ℤ w → place_by u w z ≡ Right
 right_by_signs u w z h k = grind (arith, ints)
 
-left_by_signs : (u w z : ℤ) → u <ℤ pos 0 → w <ℤ pos 0 → place_by u w z ≡ Left
+pub left_by_signs : (u w z : ℤ) → u <ℤ pos 0 → w <ℤ pos 0 → place_by u w z ≡ Left
 left_by_signs u w z h k = grind (arith, ints)
 
 across_down : (u w z : ℤ) → pos 0 <ℤ u → w <ℤ pos 0 → place_by u w z ≡ Across

@@ -1,5 +1,5 @@
 -- The counts of the front of a list and of the pieces behind it are those of both.
-use Rattle.std.proofs.Common.{◌≡◌, ap, ℕ, ◌+◌, List, ◌++◌, length, take, drop, arith}
+use Rattle.std.proofs.Common.{◌≡◌, ap, ℕ, ◌+◌, List, take, drop, arith}
 use Rattle.tree_pieces.specs.declared.edge.Edge.{Edge}
 use Rattle.tree_pieces.specs.declared.piece.Piece.{Piece}
 use Rattle.tree_pieces.proofs.Stops.{rights, lefts, splits, rights_append, lefts_append, splits_append}

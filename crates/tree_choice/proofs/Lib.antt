@@ -9,11 +9,13 @@ pub mod Joined
 pub mod Reordered
 pub mod Columns
 pub mod EndLemmas
+pub mod EndBoxes
 pub mod ClearLemmas
 pub mod Corners
 pub mod WholeLines
 pub mod ClearBlocks
 pub mod Known
+pub mod Parity
 pub mod Exchanged
 pub mod Taking
 pub mod DrawnEnds

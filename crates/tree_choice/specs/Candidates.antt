@@ -11,7 +11,7 @@ use Rattle.tree_choice.specs.declared.sorting.Blocks.{Blocks}
 use Rattle.tree_choice.specs.Counts.{AreCounts}
 use Rattle.tree_choice.specs.Sights.{AreMargins}
 use Rattle.tree_choice.specs.Columns.{AreEnds, HoldsBoxes, AreCorners}
-use Rattle.tree_choice.specs.Blocks.{AreBlocks, AreGroups}
+use Rattle.tree_choice.specs.Blocks.{AreBlocks, AreGroups, AreNotedEnds}
 
 -- the candidate is a piece of the lines, and its margins are those of its ray
 pub record IsSighted (by : Candidate) : Type 0 where
@@ -43,3 +43,4 @@ pub record AreNoted (lines : List Edge) (list : NotedPieces) : Type 0 where
   pub blocks : AreBlocks lines list.pieces.now list.blocks.now
   pub corners : HoldsBoxes list.blocks.now list.corners.now
   pub groups : AreGroups lines list.pieces.now list.groups.now
+  pub boxes : AreNotedEnds lines list.pieces.now list.ends.now

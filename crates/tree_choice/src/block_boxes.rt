@@ -17,7 +17,7 @@ pub(crate) const BLOCK: usize = 16;
 pub(crate) const GROUP: usize = 256;
 
 // A box that no place lies in.
-const NOWHERE: Bounds = Bounds {
+pub(crate) const NOWHERE: Bounds = Bounds {
     top: -16384,
     bottom: 16383,
     left: 16383,
@@ -25,7 +25,7 @@ const NOWHERE: Bounds = Bounds {
 };
 
 // The box round a box and a place.
-fn with_place(bounds: Bounds, place: Vertex) -> Bounds
+pub(crate) fn with_place(bounds: Bounds, place: Vertex) -> Bounds
     requires bounds { IsInnerBox bounds }
     requires place { IsDrawable place }
     ensures wider { IsWithinBox bounds result }
@@ -41,7 +41,7 @@ fn with_place(bounds: Bounds, place: Vertex) -> Bounds
 }
 
 // A box one step wider on each side.
-fn widened(bounds: Bounds) -> Bounds
+pub(crate) fn widened(bounds: Bounds) -> Bounds
     requires { IsInnerBox bounds }
     ensures { (v : Vertex) → HoldsPlace bounds v → IsWellIn result v }
 {

@@ -2,7 +2,7 @@
 ghost use Rattle.std.specs.Prelude.{◌≡◌, ◌≤◌, ◌<◌, ◌^◌, length, All, IfSome};
 ghost use Rattle.std.specs.List.Sorted.{IsPermutation};
 ghost use Rattle.tree_pieces.specs.Pieces.{IsPiece};
-ghost use Rattle.tree_choice.specs.Blocks.{AreBlocks, AreGroups};
+ghost use Rattle.tree_choice.specs.Blocks.{AreBlocks, AreGroups, AreNotedEnds};
 ghost use Rattle.tree_choice.specs.Columns.{AreEnds, HoldsBoxes};
 ghost use Rattle.tree_choice.specs.SoFar.{IsBound};
 
@@ -72,10 +72,12 @@ pub(crate) fn bound_of(
         ordered.now.lasts.now }
     requires sides { HoldsBoxes blocks.now straight.old.sides }
     requires groups { AreGroups lines.now ordered.now.pieces.now straight.old.groups.items }
+    requires boxes { AreNotedEnds lines.now ordered.now.pieces.now straight.old.ends }
     requires room { length blocks.now ≤ length straight.old.noted.items }
     ensures bound { IsBound lines.now pieces.now used.now result }
     ensures sides { straight.new.sides ≡ straight.old.sides }
     ensures groups { straight.new.groups ≡ straight.old.groups }
+    ensures boxes { straight.new.ends ≡ straight.old.ends }
     ensures room { length straight.new.noted.items ≡ length straight.old.noted.items }
 {
     let at = first_counted(pieces, used, floors);
@@ -89,6 +91,7 @@ pub(crate) fn bound_of(
         blocks,
         corners: &straight.sides,
         groups: &straight.groups,
+        ends: &straight.ends,
     };
     let piece = &pieces[at];
     match count_by_boxes(lines, piece, &list, &mut straight.noted, u64::MAX) {

@@ -6,6 +6,7 @@ ghost use Rattle.tree_pieces.specs.Division.{parts_of, parts_by};
 ghost use Rattle.tree_choice.specs.Candidates.{IsSighted};
 
 use crate::corner_columns::BoxColumns;
+use crate::end_boxes::NotedEnds;
 use crate::margins::{Margins, margins_of, sides_of_place};
 use crate::whole_lines::side_of_line;
 use lump_records::{Bounds, Vertex};
@@ -20,7 +21,7 @@ pub struct Candidate<'a> {
 }
 
 /// A list of pieces with their rounded ends and all that is noted of them once for all candidates: a box for each block
-/// of sixteen with its corners, and boxes of groups of sixteen blocks.
+/// of sixteen with its corners, boxes of groups of sixteen blocks, and boxes round the ends.
 #[derive(Clone, Copy)]
 pub(crate) struct NotedPieces<'a> {
     pub pieces: &'a [Piece],
@@ -29,6 +30,7 @@ pub(crate) struct NotedPieces<'a> {
     pub blocks: &'a [Bounds],
     pub corners: &'a BoxColumns,
     pub groups: &'a [Bounds],
+    pub ends: &'a NotedEnds,
 }
 
 impl<'a> Candidate<'a> {

@@ -3,7 +3,7 @@ ghost use Rattle.std.specs.Prelude.{◌≡◌, ◌+◌, ◌≤◌, ◌<◌, ◌^
 ghost use Rattle.std.specs.List.Sorted.{IsPermutation};
 ghost use Rattle.tree_pieces.specs.Pieces.{IsPiece};
 ghost use Rattle.tree_pieces.specs.Tree.{HasNoChoice, cost};
-ghost use Rattle.tree_choice.specs.Blocks.{AreBlocks, AreGroups};
+ghost use Rattle.tree_choice.specs.Blocks.{AreBlocks, AreGroups, AreNotedEnds};
 ghost use Rattle.tree_choice.specs.Candidates.{AreEnded};
 ghost use Rattle.tree_choice.specs.Counts.{AreCountsBelow};
 ghost use Rattle.tree_choice.specs.Choices.{IsChosen};
@@ -63,7 +63,8 @@ pub fn choose_in(lines: &Lines, pieces: &[Piece], used: &[bool]) -> Option<Choic
 }
 
 // The same as `consider`, but by boxes and rounded ends, and without counting a piece on the straight line of an
-// earlier one, or one of which it is known that it costs the limit or more.
+// earlier one, or one of which it is known that it costs the limit or more, as each does that costs 1 or more in a list
+// of an odd number of pieces.
 fn consider_ordered(
     lines: &Lines,
     pieces: &[Piece],
@@ -87,12 +88,14 @@ fn consider_ordered(
     requires stands { slice_get pieces.now at ≡ Some piece.now }
     requires sides { HoldsBoxes blocks.now straight.old.sides }
     requires groups { AreGroups lines.now ordered.now.pieces.now straight.old.groups.items }
+    requires boxes { AreNotedEnds lines.now ordered.now.pieces.now straight.old.ends }
     requires room { length blocks.now ≤ length straight.old.noted.items }
     requires floors { AreKnown lines.now pieces.now floors.old }
     requires so_far { SoFar lines.now pieces.now used.now bound at best }
     ensures so_far { SoFar lines.now pieces.now used.now bound (at + 1) result }
     ensures sides { straight.new.sides ≡ straight.old.sides }
     ensures groups { straight.new.groups ≡ straight.old.groups }
+    ensures boxes { straight.new.ends ≡ straight.old.ends }
     ensures room { length straight.new.noted.items ≡ length straight.old.noted.items }
     ensures floors { AreKnown lines.now pieces.now floors.new }
 {
@@ -100,6 +103,9 @@ fn consider_ordered(
         return best;
     }
     let limit = limit_of(bound, best);
+    if limit <= pieces.len() as u64 % 2 {
+        return best;
+    }
     let known = floor_at(floors, at);
     if known.reaches(limit) {
         return best;
@@ -115,6 +121,7 @@ fn consider_ordered(
         blocks,
         corners: &straight.sides,
         groups: &straight.groups,
+        ends: &straight.ends,
     };
     let far = far_limit(floors, limit);
     let counted = count_by_boxes(lines, piece, &list, &mut straight.noted, far);
@@ -151,6 +158,7 @@ pub fn choose_above(
     }
     straight.sides.note(blocks);
     note_groups(lines, ordered.pieces, blocks, &mut straight.groups);
+    straight.ends.note(lines, ordered, &straight.groups);
     let bound = bound_of(lines, pieces, ordered, blocks, used, straight, floors);
     let mut best = None;
     for (at, piece) in pieces.iter().enumerate() {

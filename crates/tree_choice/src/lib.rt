@@ -9,6 +9,7 @@ mod choice;
 mod choosing;
 mod corner_columns;
 mod counts;
+mod end_boxes;
 mod ends;
 mod exchange;
 mod floors;

@@ -2,12 +2,14 @@
 ghost use Rattle.std.specs.Prelude.{◌≡◌, ◌+◌, ◌*◌, ◌≤◌, ◌<◌, ◌^◌, ◌++◌, ◌&&◌, ◌||◌, not, if◌then◌else◌, length, take, drop, All};
 ghost use Rattle.tree_pieces.specs.Boxes.{HoldsPiece};
 ghost use Rattle.tree_choice.specs.Candidates.{IsSighted, AreBoxed, AreNoted};
+ghost use Rattle.tree_choice.specs.Blocks.{HoldEnds, HoldAllEnds};
 ghost use Rattle.tree_choice.specs.Sorting.{IsSortedBy, AreSidesOf, IsRun, AreClearBlocks, block_at, flagged_numbers};
 
 use crate::block_boxes::{BLOCK, GROUP};
 use crate::box_place::{BoxSides, side_of_box, sides_of_box, sides_of_corners};
 use crate::candidate::{Candidate, NotedPieces};
 use crate::corner_columns::column;
+use crate::end_boxes::{EndBoxes, side_of_ends};
 use lump_records::{Bounds, Vertex};
 use tree_pieces::{Piece, Place};
 
@@ -207,12 +209,52 @@ fn sort_last(
     add_block(by, pieces, whole, size, sides, sorted, noted)
 }
 
-// Sorts a group of sixteen blocks: all by the group's box, or else block by block.
+// Sorts a group of sixteen blocks that its box leaves open: all by the boxes round its ends, or else block by block.
+#[inline(never)]
+fn sort_open_group(
+    by: &Candidate,
+    blocks: &Blocks,
+    group: usize,
+    boxes: EndBoxes,
+    sorted: Sorted,
+    noted: &mut [u32],
+) -> Sorted
+    requires candidate { IsSighted by.now }
+    requires blocks { AreBoxed by.now blocks.now }
+    requires within { 256 * (group + 1) ≤ length blocks.now.pieces.now }
+    requires holds { All (HoldEnds by.now.lines.now boxes)
+        (take 256 (drop (256 * group) blocks.now.pieces.now)) }
+    requires room { length blocks.now.boxes.now ≤ length noted.old }
+    requires before { IsSortedBy by.now blocks.now.pieces.now (256 * group) sorted noted.old }
+    ensures is { IsSortedBy by.now blocks.now.pieces.now (256 * (group + 1)) result noted.new }
+    ensures room { length noted.new ≡ length noted.old }
+{
+    match side_of_ends(by.margins, boxes) {
+        Place::Right => Sorted {
+            right: sorted.right + GROUP,
+            left: sorted.left,
+            count: sorted.count,
+        },
+        Place::Left => Sorted {
+            right: sorted.right,
+            left: sorted.left + GROUP,
+            count: sorted.count,
+        },
+        Place::Across => {
+            let from = BLOCK * group;
+            sort_blocks(by, blocks, from, from + BLOCK, sorted, noted)
+        }
+    }
+}
+
+// Sorts a group of sixteen blocks: all by the group's boxes, or else block by block.
+#[inline(always)]
 fn sort_group(
     by: &Candidate,
     blocks: &Blocks,
     group: usize,
     bounds: Bounds,
+    ends: &[EndBoxes],
     sorted: Sorted,
     noted: &mut [u32],
 ) -> Sorted
@@ -221,6 +263,7 @@ fn sort_group(
     requires within { 256 * (group + 1) ≤ length blocks.now.pieces.now }
     requires holds { All (HoldsPiece by.now.lines.now bounds)
         (take 256 (drop (256 * group) blocks.now.pieces.now)) }
+    requires ends { HoldAllEnds 256 by.now.lines.now blocks.now.pieces.now ends.now }
     requires room { length blocks.now.boxes.now ≤ length noted.old }
     requires before { IsSortedBy by.now blocks.now.pieces.now (256 * group) sorted noted.old }
     ensures is { IsSortedBy by.now blocks.now.pieces.now (256 * (group + 1)) result noted.new }
@@ -238,6 +281,9 @@ fn sort_group(
             count: sorted.count,
         },
         Place::Across => {
+            if group < ends.len() {
+                return sort_open_group(by, blocks, group, ends[group], sorted, noted);
+            }
             let from = BLOCK * group;
             sort_blocks(by, blocks, from, from + BLOCK, sorted, noted)
         }
@@ -274,9 +320,16 @@ fn blocks_for<'a>(by: &Candidate, list: &NotedPieces<'a>) -> Blocks<'a>
 }
 
 /// Sorts all blocks of a list: first group by group, then those behind the last group.
-pub(crate) fn sort_all(by: &Candidate, list: &NotedPieces, noted: &mut [u32]) -> Sorted
+#[inline(always)]
+pub(crate) fn sort_all(
+    by: &Candidate,
+    list: &NotedPieces,
+    ends: &[EndBoxes],
+    noted: &mut [u32],
+) -> Sorted
     requires candidate { IsSighted by.now }
     requires list { AreNoted by.now.lines.now list.now }
+    requires ends { HoldAllEnds 256 by.now.lines.now list.now.pieces.now ends.now }
     requires room { length list.now.blocks.now ≤ length noted.old }
     ensures is { IsSortedBy by.now list.now.pieces.now
         (length list.now.pieces.now) result noted.new }
@@ -290,7 +343,7 @@ pub(crate) fn sort_all(by: &Candidate, list: &NotedPieces, noted: &mut [u32]) ->
         count: 0,
     };
     for (g, bounds) in groups.iter().enumerate() {
-        sorted = sort_group(by, &blocks, g, *bounds, sorted, noted);
+        sorted = sort_group(by, &blocks, g, *bounds, ends, sorted, noted);
     }
     let whole = blocks.pieces.len() / BLOCK;
     for g in groups.len()..whole.div_ceil(BLOCK) {

@@ -5,6 +5,7 @@ ghost use Rattle.tree_pieces.specs.Plane.{IsEdge};
 ghost use Rattle.tree_pieces.specs.Pieces.{IsPiece};
 
 use crate::corner_columns::BoxColumns;
+use crate::end_boxes::NotedEnds;
 use indexmap::IndexSet;
 use lump_records::Bounds;
 use std::alloc::{AllocError, Global};
@@ -13,13 +14,14 @@ use tree_pieces::{Edge, Facing, Lines, Piece, lies_along, ray_of};
 /// Hints that save counts: a number for the straight line of each line, and for each number the place of the last piece
 /// met on that straight line. A hint is tested before it is used, so old or wrong hints only cost time. There is also
 /// room for the notes of a choice over as many pieces as the lines have sides: the corners of the boxes of blocks,
-/// boxes of groups, and the numbers of open blocks.
+/// boxes of groups, boxes of ends, and the numbers of open blocks.
 #[derive(Drop)]
 pub struct StraightLines {
     numbers: Vec<u16>,
     met: Vec<u32>,
     pub(crate) sides: BoxColumns,
     pub(crate) groups: Vec<Bounds>,
+    pub(crate) ends: NotedEnds,
     pub(crate) noted: Vec<u32>,
 }
 
@@ -82,12 +84,14 @@ impl StraightLines {
         }
         let sides = BoxColumns::with_room(alloc, edges.len() / 8 + 1)?;
         let groups = Vec::with_capacity(alloc, edges.len() / 128 + 1)?;
+        let ends = NotedEnds::with_room(alloc, edges.len())?;
         let noted = Vec::from_elem(alloc, 0, edges.len() / 8 + 1)?;
         Ok(StraightLines {
             numbers,
             met,
             sides,
             groups,
+            ends,
             noted,
         })
     }
@@ -110,6 +114,7 @@ impl StraightLines {
         ensures earlier { result ≡ true → HasEarlier lines.now pieces.now used.now at piece.now }
         ensures sides { self.new.sides ≡ self.old.sides }
         ensures groups { self.new.groups ≡ self.old.groups }
+        ensures boxes { self.new.ends ≡ self.old.ends }
         ensures noted { self.new.noted ≡ self.old.noted }
     {
         let line = piece.line as usize;

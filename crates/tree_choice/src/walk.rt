@@ -1,15 +1,17 @@
 //! The counts of a list: blocks whole on one side by their boxes, the pieces of open ones by their rounded ends.
-ghost use Rattle.std.specs.Prelude.{◌≡◌, ◌≤◌, ◌<◌, ◌^◌, ◌&&◌, ◌||◌, if◌then◌else◌, ◌∷◌, [], length, take, All, IfSome};
+ghost use Rattle.std.specs.Prelude.{◌≡◌, ◌≤◌, ◌<◌, ◌^◌, ◌&&◌, ◌||◌, if◌then◌else◌, ◌∷◌, [], length, take, All, IfSome, Some, slice_get};
 ghost use Rattle.tree_pieces.specs.Pieces.{IsPiece, ends_of};
 ghost use Rattle.tree_choice.specs.Candidates.{IsSighted, AreCountsBy, AreEnded, AreNoted};
 ghost use Rattle.tree_choice.specs.Counts.{AreCountsBelow};
 ghost use Rattle.tree_choice.specs.Sights.{IsNormal};
+ghost use Rattle.tree_choice.specs.Blocks.{HoldEnds, HoldAllEnds};
 ghost use Rattle.tree_choice.specs.Sorting.{IsSortedBy};
 ghost use Rattle.tree_choice.specs.Clear.{AreCountsBut, flagged, pieces_at, IsClear};
 
 use crate::block_boxes::BLOCK;
 use crate::candidate::{Candidate, NotedPieces};
 use crate::counts::Counts;
+use crate::end_boxes::{EndBoxes, side_of_ends};
 use crate::ends::EndedPieces;
 use crate::margins::{Normal, PlaceSides, sides_of_place};
 use crate::sorting::{Sorted, sort_all};
@@ -248,11 +250,45 @@ pub(crate) fn count_blocks(by: &Candidate, list: &EndedPieces) -> Counts
     counts
 }
 
+// The counts of the block of this number: by the boxes round its ends if both lie on one side, else piece by piece.
+#[inline(always)]
+fn count_numbered(by: &Candidate, block: &EndedPieces, boxes: &[EndBoxes], number: usize) -> Counts
+    requires candidate { IsSighted by.now }
+    requires block { AreEnded by.now.lines.now block.now }
+    requires few { length block.now.pieces.now ≤ 16 }
+    requires boxes { (b : EndBoxes) → slice_get boxes.now number ≡ Some b →
+        All (HoldEnds by.now.lines.now b) block.now.pieces.now }
+    ensures { AreCountsBy by.now block.now.pieces.now result }
+{
+    if number < boxes.len() {
+        match side_of_ends(by.margins, boxes[number]) {
+            Place::Right => {
+                return Counts {
+                    splits: 0,
+                    right: block.pieces.len() as u32,
+                    left: 0,
+                };
+            }
+            Place::Left => {
+                return Counts {
+                    splits: 0,
+                    right: 0,
+                    left: block.pieces.len() as u32,
+                };
+            }
+            Place::Across => {}
+        }
+    }
+    count_block(by, block)
+}
+
 // The counts of a list whose blocks are sorted, open block by open block, or None as soon as the cost is known to reach
 // the limit.
+#[inline(always)]
 fn count_open(
     by: &Candidate,
     list: &EndedPieces,
+    boxes: &[EndBoxes],
     sorted: Sorted,
     noted: &[u32],
     limit: u64,
@@ -260,6 +296,7 @@ fn count_open(
     requires candidate { IsSighted by.now }
     requires list { AreEnded by.now.lines.now list.now }
     requires few { length list.now.pieces.now < 2 ^ 32 }
+    requires boxes { HoldAllEnds 16 by.now.lines.now list.now.pieces.now boxes.now }
     requires is { IsSortedBy by.now list.now.pieces.now
         (length list.now.pieces.now) sorted noted.now }
     ensures { AreCountsBelow by.now.lines.now by.now.piece.now list.now.pieces.now limit result }
@@ -277,20 +314,45 @@ fn count_open(
         return None;
     }
     for n in 0..sorted.count {
-        let from = BLOCK * noted[n] as usize;
+        let number = noted[n] as usize;
+        let from = BLOCK * number;
         let end = (from + BLOCK).min(pieces.len());
         let block = EndedPieces {
             pieces: &pieces[from..end],
             firsts: &firsts[from..end],
             lasts: &lasts[from..end],
         };
-        counts = counts.plus(count_block(by, &block));
+        counts = counts.plus(count_numbered(by, &block, boxes, number));
         rest -= end - from;
         if limit <= counts.least_cost(rest as u32) {
             return None;
         }
     }
     Some(counts)
+}
+
+// The counts of a list with boxes round its ends, as `count_by_boxes` has them. It stands alone, since it is rare.
+#[inline(never)]
+fn count_by_ends(
+    by: &Candidate,
+    list: &NotedPieces,
+    noted: &mut [u32],
+    limit: u64,
+) -> Option<Counts>
+    requires candidate { IsSighted by.now }
+    requires list { AreNoted by.now.lines.now list.now }
+    requires room { length list.now.blocks.now ≤ length noted.old }
+    ensures counts { AreCountsBelow by.now.lines.now by.now.piece.now list.now.pieces.now
+        limit result }
+    ensures room { length noted.new ≡ length noted.old }
+{
+    let ended = EndedPieces {
+        pieces: list.pieces,
+        firsts: list.firsts,
+        lasts: list.lasts,
+    };
+    let sorted = sort_all(by, list, &list.ends.groups, noted);
+    count_open(by, &ended, &list.ends.blocks, sorted, noted, limit)
 }
 
 /// The counts of a list, or None as soon as the cost is known to reach the limit. A short list is counted piece by
@@ -319,6 +381,9 @@ pub(crate) fn count_by_boxes(
     if pieces.len() <= BLOCK {
         return count_list(&by, &ended, limit);
     }
-    let sorted = sort_all(&by, list, noted);
-    count_open(&by, &ended, sorted, noted, limit)
+    if list.ends.blocks.len() != 0 {
+        return count_by_ends(&by, list, noted, limit);
+    }
+    let sorted = sort_all(&by, list, &[], noted);
+    count_open(&by, &ended, &[], sorted, noted, limit)
 }

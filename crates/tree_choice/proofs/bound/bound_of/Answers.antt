@@ -19,6 +19,7 @@ count_by_boxes-requires-clause-list c =
       blocks = c.requires.blocks;
       corners = c.requires.sides;
       groups = rw c.deref.ensures.value c.requires.groups;
+      boxes = c.requires.boxes;
     }
 
 pub returns-else-counts-eq0-clause-bound : goal.returns-else-counts-eq0-clause-bound

@@ -1,5 +1,5 @@
 use Rattle.std.proofs.Common.{◌≤◌, length}
-use Rattle.tree_choice.specs.Blocks.{AreGroups}
+use Rattle.tree_choice.specs.Blocks.{AreGroups, AreNotedEnds}
 use Rattle.tree_choice.specs.Floors.{AreKnown}
 use Rattle.tree_choice.specs.SoFar.{SoFar}
 use Rattle.tree_choice.specs.Columns.{HoldsBoxes}
@@ -11,5 +11,6 @@ invariant-loop-at l = record {
   floors : AreKnown l.lines l.pieces l.floors;
   sides : HoldsBoxes l.blocks l.straight.sides;
   groups : AreGroups l.lines l.ordered.pieces.now l.straight.groups.items;
+  boxes : AreNotedEnds l.lines l.ordered.pieces.now l.straight.ends;
   room : length l.blocks ≤ length l.straight.noted.items;
 }

@@ -6,6 +6,7 @@ use Rattle.tree_pieces.specs.Tree.{cost}
 use Rattle.tree_choice.specs.SoFar.{SoFar}
 use Rattle.tree_choice.proofs.Best.{stands_at, skips, stays, taken, line_known, used_stays}
 use Rattle.tree_choice.proofs.Known.{nearer}
+use Rattle.tree_choice.proofs.Parity.{odd_costs}
 use Rattle.tree_choice.proofs.Reordered.{reordered}
 use Rattle.tree_choice.proofs.choosing.consider_ordered.Goals as goal
 
@@ -23,6 +24,7 @@ count_by_boxes-counted-requires-clause-list c =
       blocks = c.requires.blocks;
       corners = rw c.has_earlier.ensures.sides c.requires.sides;
       groups = rw (c.deref.ensures.value, c.has_earlier.ensures.groups) c.requires.groups;
+      boxes = rw c.has_earlier.ensures.boxes c.requires.boxes;
     }
 
 pub returns-then-has_earlier-clause-so_far : goal.returns-then-has_earlier-clause-so_far
@@ -70,3 +72,13 @@ returns-then-used-piece-clause-so_far c =
     let used = c.args.used.now in
     let p = c.args.piece.now in
     used_stays lines c.args.pieces.now used c.args.bound c.args.at p c.requires.stands c.args.best (line_known lines used p c.requires.piece c.requires.known) c.if-used-piece.true c.requires.so_far
+
+pub returns-then-limit-pieces-clause-so_far : goal.returns-then-limit-pieces-clause-so_far
+returns-then-limit-pieces-clause-so_far c =
+    let lines = c.args.lines.now in
+    let p = c.args.piece.now in
+    let ps = c.args.pieces.now in
+    let odd = odd_costs lines p ps c.requires.floors.pieces in
+    let t = c.if-limit-pieces.true in
+    stays lines ps c.args.used.now c.args.bound c.args.at p c.requires.stands c.args.best c.requires.so_far
+    (λ can. subst (λ (limit : ℕ). limit ≤ cost lines p ps) c.limit_of-limit.ensures (omega arith))

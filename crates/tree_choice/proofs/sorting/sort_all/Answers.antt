@@ -1,6 +1,7 @@
 use Rattle.std.proofs.Common.{◌+◌, ◌*◌, ◌/◌, min, refl, sym, ap, subst, take, drop, get_or, length, arith, List, All}
 use Rattle.tree_pieces.specs.declared.piece.Piece.{Piece}
 use Rattle.tree_pieces.specs.Boxes.{HoldsPiece}
+use Rattle.tree_choice.specs.Blocks.{HoldAllEnds}
 use Rattle.tree_choice.specs.Sorting.{IsSorted}
 use Rattle.tree_choice.proofs.Best.{stands_at}
 use Rattle.tree_choice.proofs.BoxLemmas.{no_box}
@@ -14,6 +15,11 @@ sort_group-sorted-requires-clause-holds c =
     let g = c.loop-g.g in
     subst (λ (ps : List Piece). All (HoldsPiece lines (get_or groups g no_box)) (take 256 (drop (256 * g) ps))) (sym c.blocks_for-blocks.ensures.pieces)
     (c.requires.list.groups.holds g (get_or groups g no_box) (stands_at groups g no_box c.loop-g-test.true))
+
+pub sort_group-sorted-requires-clause-ends : goal.sort_group-sorted-requires-clause-ends
+sort_group-sorted-requires-clause-ends c =
+    let lines = c.args.by.now.lines.now in
+    subst (λ (ps : List Piece). HoldAllEnds 256 lines ps c.args.ends.now) (sym c.blocks_for-blocks.ensures.pieces) c.requires.ends
 
 pub sort_blocks-sorted-requires-clause-before : goal.sort_blocks-sorted-requires-clause-before
 sort_blocks-sorted-requires-clause-before c =

@@ -1,4 +1,4 @@
-use Rattle.std.proofs.Common.{◌≡◌, refl, ◌+◌, ◌*◌, length, take, drop, subst, arith, All}
+use Rattle.std.proofs.Common.{◌≡◌, refl, ◌+◌, ◌*◌, length, take, drop, get_or, subst, arith, All}
 use Rattle.std.proofs.lemmas.List.{length-take, length-drop}
 use Rattle.std.proofs.lemmas.List.Elements.{All-take, All-drop}
 use Rattle.std.specs.Prelude.{pos, ◌<ℤ◌}
@@ -6,6 +6,8 @@ use Rattle.lump_records.specs.declared.plane.Ray.{Ray}
 use Rattle.tree_pieces.specs.Pieces.{IsPiece}
 use Rattle.tree_pieces.specs.Boxes.{least_value, greatest_value}
 use Rattle.tree_pieces.proofs.BlockCounts.{block_right, block_left}
+use Rattle.tree_choice.proofs.Best.{stands_at}
+use Rattle.tree_choice.proofs.EndBoxes.{no_boxes}
 use Rattle.tree_choice.proofs.OpenBlocks.{same_sorted, part_sorted}
 use Rattle.tree_choice.proofs.sorting.sort_group.Goals as goal
 
@@ -44,3 +46,9 @@ returns-in-Left-clause-is c =
     same_sorted lines p ps (256 * g + 256) (256 * (g + 1)) (s.right + 0) s.right (s.left + length block) (s.left + 256) s.count s.count _ _
     (part_sorted lines p ps (256 * g) 256 s.right s.left s.count 0 (length block) _ c.requires.before (block_left lines p block c.args.bounds ok c.requires.holds h) (omega arith))
     (omega arith) (omega arith) (omega arith) refl refl
+
+pub sort_open_group-requires-clause-holds : goal.sort_open_group-requires-clause-holds
+sort_open_group-requires-clause-holds c =
+    let ends = c.args.ends.now in
+    let g = c.args.group in
+    c.requires.ends g (get_or ends g no_boxes) (stands_at ends g no_boxes c.if-group-ends.true)

@@ -1,19 +1,15 @@
 use Rattle.std.specs.Prelude.{not}
 use mir.Val.{bool_byte}
-use Rattle.std.proofs.Common.{rules, refl, ◌≡◌, sym, ap, ◌∙◌, Bool, true, false, List, ◌∷◌, [], Some, None}
-use Rattle.std.proofs.lemmas.Int.{to_z-of_z}
-use Rattle.std.specs.Prelude.{FitsSigned}
-use Rattle.std.specs.Int.{w64}
+use Rattle.std.proofs.Common.{refl, ◌≡◌, sym, ap, ◌∙◌, Bool, true, false, List, ◌∷◌, [], Some, None}
 use Rattle.tree_pieces.specs.declared.edge.Edge.{Edge}
 use Rattle.tree_pieces.specs.declared.piece.Piece.{Piece}
 use Rattle.tree_pieces.specs.declared.piece.Place.TheVariants.{Right, Left}
-use Rattle.tree_pieces.specs.Plane.{dot, ray}
 use Rattle.tree_pieces.specs.Division.{parts_of}
-use Rattle.tree_pieces.specs.Local.{HasFractions, place_on}
+use Rattle.tree_pieces.specs.Local.{place_on}
 use Rattle.tree_choice.specs.declared.counts.Counts.{Counts}
 use Rattle.tree_choice.specs.Counts.{AreCounts}
 use Rattle.tree_choice.proofs.OneMore.{piece_counts}
-use Rattle.tree_choice.proofs.WholeLines.{whole_right, whole_left, parts_by_place}
+use Rattle.tree_choice.proofs.WholeLines.{parts_by_place}
 use Rattle.tree_choice.proofs.walk.count_piece.Goals as goal
 
 -- a piece of a line on one side

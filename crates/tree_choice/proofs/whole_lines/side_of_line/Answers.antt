@@ -1,4 +1,4 @@
-use Rattle.std.specs.Prelude.{FitsSigned, ℤ, pos, ◌*ℤ◌, int_lt}
+use Rattle.std.specs.Prelude.{FitsSigned, pos, ◌*ℤ◌, int_lt}
 use Rattle.std.specs.Int.{w64}
 use Rattle.std.proofs.Common.{rules, refl, ◌≡◌, sym, ap, ◌∙◌, Bool, true, false, Option, Some, None}
 use Rattle.std.proofs.lemmas.Int.{to_z-of_z}
