@@ -29,7 +29,7 @@ pub(crate) struct NotedEnds {
 }
 
 // How many pieces a list has at least for which these boxes are noted. Shorter ones are counted as fast without.
-const LONG: usize = 2048;
+const LONG: usize = 512;
 
 // The two ends of a piece, the western one first; of two as far west, the southern one.
 fn western_first(first: Vertex, last: Vertex) -> Ends
@@ -101,7 +101,7 @@ fn extent(bounds: Bounds) -> u32
     u32::from(height) + u32::from(width)
 }
 
-// Whether the boxes round the ends are narrow beside the boxes round the pieces, for at least half of the groups. Else
+// Whether the boxes round the ends are narrow beside the boxes round the pieces, for more than half of the groups. Else
 // their tests would tell nothing new.
 fn are_narrow(boxes: &[EndBoxes], groups: &[Bounds]) -> bool {
     let mut count = 0;
