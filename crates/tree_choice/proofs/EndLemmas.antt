@@ -30,10 +30,10 @@ abbrev pub IsWellLeft : Ray → Vertex → Type 0
 IsWellLeft r v = (pos 2 *ℤ vertex_value r v) <ℤ neg_ℤ (pos (blur r))
 
 -- so does the exact point that rounds to it
-exact_right : (r : Ray) (e : Edge) (t : Frac) → IsFraction t → IsWellRight r (point_at e t) → pos 0 <ℤ exact_value r e t
+pub exact_right : (r : Ray) (e : Edge) (t : Frac) → IsFraction t → IsWellRight r (point_at e t) → pos 0 <ℤ exact_value r e t
 exact_right r e t f h = by_lt_z (pos 0) (exact_value r e t) (λ k. k) (λ k. let n = near_left r e t f.positive k in absurd (omega (arith, linear)))
 
-exact_left : (r : Ray) (e : Edge) (t : Frac) → IsFraction t → IsWellLeft r (point_at e t) → exact_value r e t <ℤ pos 0
+pub exact_left : (r : Ray) (e : Edge) (t : Frac) → IsFraction t → IsWellLeft r (point_at e t) → exact_value r e t <ℤ pos 0
 exact_left r e t f h = by_lt_z (exact_value r e t) (pos 0) (λ k. k) (λ k. let n = near_right r e t f.positive k in absurd (omega (arith, linear)))
 
 -- signs decide the place
@@ -43,10 +43,10 @@ right_by_signs u w z h k = grind (arith, ints)
 pub left_by_signs : (u w z : ℤ) → u <ℤ pos 0 → w <ℤ pos 0 → place_by u w z ≡ Left
 left_by_signs u w z h k = grind (arith, ints)
 
-across_down : (u w z : ℤ) → pos 0 <ℤ u → w <ℤ pos 0 → place_by u w z ≡ Across
+pub across_down : (u w z : ℤ) → pos 0 <ℤ u → w <ℤ pos 0 → place_by u w z ≡ Across
 across_down u w z h k = grind (arith, ints)
 
-across_up : (u w z : ℤ) → u <ℤ pos 0 → pos 0 <ℤ w → place_by u w z ≡ Across
+pub across_up : (u w z : ℤ) → u <ℤ pos 0 → pos 0 <ℤ w → place_by u w z ≡ Across
 across_up u w z h k = grind (arith, ints)
 
 above_not : (b a c : ℤ) → b <ℤ (pos 2 *ℤ a) → (pos 2 *ℤ c) ≤ℤ b → a ≡ c → ⊥
@@ -56,28 +56,28 @@ below_not : (b a c : ℤ) → (pos 2 *ℤ a) <ℤ b → b ≤ℤ (pos 2 *ℤ c) 
 below_not b a c h k e = let f = ap (λ (x : ℤ). pos 2 *ℤ x) e in omega (arith, linear)
 
 -- places on two sides of a value aren't one
-apart_right : (r : Ray) (u m : Vertex) → IsWellRight r u → (pos 2 *ℤ vertex_value r m) ≤ℤ pos (blur r) → same_place u m ≡ false
+pub apart_right : (r : Ray) (u m : Vertex) → IsWellRight r u → (pos 2 *ℤ vertex_value r m) ≤ℤ pos (blur r) → same_place u m ≡ false
 apart_right r u m h k = by_test (same_place u m) refl
   where
     by_test : (b : Bool) → same_place u m ≡ b → b ≡ false
     by_test true e = let s = same_vertex_is u m e in let f = ap (vertex_value r) s in absurd (above_not (pos (blur r)) (vertex_value r u) (vertex_value r m) h k f)
     by_test false e = refl
 
-apart_left : (r : Ray) (u m : Vertex) → IsWellLeft r u → neg_ℤ (pos (blur r)) ≤ℤ (pos 2 *ℤ vertex_value r m) → same_place u m ≡ false
+pub apart_left : (r : Ray) (u m : Vertex) → IsWellLeft r u → neg_ℤ (pos (blur r)) ≤ℤ (pos 2 *ℤ vertex_value r m) → same_place u m ≡ false
 apart_left r u m h k = by_test (same_place u m) refl
   where
     by_test : (b : Bool) → same_place u m ≡ b → b ≡ false
     by_test true e = let s = same_vertex_is u m e in let f = ap (vertex_value r) s in absurd (below_not (neg_ℤ (pos (blur r))) (vertex_value r u) (vertex_value r m) h k f)
     by_test false e = refl
 
-apart_from_right : (r : Ray) (m u : Vertex) → IsWellRight r u → (pos 2 *ℤ vertex_value r m) ≤ℤ pos (blur r) → same_place m u ≡ false
+pub apart_from_right : (r : Ray) (m u : Vertex) → IsWellRight r u → (pos 2 *ℤ vertex_value r m) ≤ℤ pos (blur r) → same_place m u ≡ false
 apart_from_right r m u h k = by_test (same_place m u) refl
   where
     by_test : (b : Bool) → same_place m u ≡ b → b ≡ false
     by_test true e = let s = same_vertex_is m u e in let f = ap (vertex_value r) s in absurd (above_not (pos (blur r)) (vertex_value r u) (vertex_value r m) h k (sym f))
     by_test false e = refl
 
-apart_from_left : (r : Ray) (m u : Vertex) → IsWellLeft r u → neg_ℤ (pos (blur r)) ≤ℤ (pos 2 *ℤ vertex_value r m) → same_place m u ≡ false
+pub apart_from_left : (r : Ray) (m u : Vertex) → IsWellLeft r u → neg_ℤ (pos (blur r)) ≤ℤ (pos 2 *ℤ vertex_value r m) → same_place m u ≡ false
 apart_from_left r m u h k = by_test (same_place m u) refl
   where
     by_test : (b : Bool) → same_place m u ≡ b → b ≡ false

@@ -1,5 +1,5 @@
 -- What a list loses and gains, and what that does to costs.
-use Rattle.std.proofs.Common.{◌≡◌, refl, sym, ap, ◌∙◌, ℕ, ◌+◌, ◌*◌, ◌-◌, ◌<◌, ◌≤◌, cond, List, [], ◌∷◌, ◌++◌, length, take, get_or, arith}
+use Rattle.std.proofs.Common.{◌≡◌, refl, ap, ◌∙◌, ℕ, ◌+◌, ◌*◌, ◌-◌, ◌<◌, ◌≤◌, cond, List, [], ◌∷◌, ◌++◌, length, take, get_or, arith}
 use Rattle.std.proofs.lemmas.List.{take_more}
 use Rattle.std.proofs.lemmas.List.Sums.{sum_by-append}
 use Rattle.std.specs.List.{sum_by}
@@ -8,9 +8,9 @@ use Rattle.tree_pieces.specs.declared.piece.Piece.{Piece}
 use Rattle.tree_pieces.specs.Division.{parts_of}
 use Rattle.tree_pieces.specs.Tree.{is_split, cost}
 use Rattle.tree_pieces.proofs.Stops.{rights, lefts, splits}
-use Rattle.tree_choice.specs.declared.counts.Counts.{Counts}
-use Rattle.tree_choice.specs.Counts.{AreCounts}
+use Rattle.tree_choice.specs.declared.losses.Change.{Change}
 use Rattle.tree_choice.specs.Floors.{IsExchanged}
+use Rattle.tree_choice.specs.Losses.{IsChange}
 use Rattle.tree_choice.proofs.Reordered.{kept_sum, weight}
 
 -- the sum over a list with one more piece
@@ -61,14 +61,12 @@ module _ (lines : List Edge) (p : Piece) (ps part gone new : List Piece) (x : Is
   pub splits_too : splits lines p ps + splits lines p new ≡ splits lines p part + splits lines p gone
   splits_too = x.sums (λ (q : Piece). cond (is_split lines p q) 1 0)
 
-  -- the cost in the part is at least that in the list, less what the exchange may take off
-  pub cost_lowered : (n : ℕ) (lost gained : Counts) → AreCounts lines p gone lost → AreCounts lines p new gained
-      → n ≤ cost lines p ps
-      → n - (8 * (lost.splits - gained.splits) + (((lost.right + gained.left) - (lost.left + gained.right)) + ((lost.left + gained.right) - (lost.right + gained.left)))) ≤ cost lines p part
-  cost_lowered n lost gained g h below =
-      by_numbers _ _ _ _ _ _ n _ _ _ _ _ _ (splits_too ∙ ap (λ z. splits lines p part + z) (sym g.splits)) h.splits (rights_too ∙ ap (λ z. rights lines p part + z) (sym g.right)) h.right (lefts_too ∙ ap (λ z. lefts lines p part + z) (sym g.left)) h.left below
-    where
-      by_numbers : (S R L S' R' L' n Sg Rg Lg s r l : ℕ) → S + splits lines p new ≡ S' + Sg → s ≡ splits lines p new → R + rights lines p new ≡ R' + Rg → r ≡ rights lines p new → L + lefts lines p new ≡ L' + Lg → l ≡ lefts lines p new
-          → n ≤ 8 * S + ((R - L) + (L - R))
-          → n - (8 * (Sg - s) + (((Rg + l) - (Lg + r)) + ((Lg + r) - (Rg + l)))) ≤ 8 * S' + ((R' - L') + (L' - R'))
-      by_numbers S R L S' R' L' n Sg Rg Lg s r l a b c d e f h = omega arith
+-- the cost in the part is at least that in the list, less what the change may take off
+pub cost_lowered : (lines : List Edge) (p : Piece) (ps part : List Piece) (c : Change) (n : ℕ) → IsChange lines p ps part c → n ≤ cost lines p ps
+    → n - (8 * (c.lost.splits - c.gained.splits) + (((c.lost.right + c.gained.left) - (c.lost.left + c.gained.right)) + ((c.lost.left + c.gained.right) - (c.lost.right + c.gained.left)))) ≤ cost lines p part
+cost_lowered lines p ps part c n k below = by_numbers _ _ _ _ _ _ n _ _ _ _ _ _ k.splits k.right k.left below
+  where
+    by_numbers : (S R L S' R' L' n Sg Rg Lg s r l : ℕ) → S + s ≡ S' + Sg → R + r ≡ R' + Rg → L + l ≡ L' + Lg
+        → n ≤ 8 * S + ((R - L) + (L - R))
+        → n - (8 * (Sg - s) + (((Rg + l) - (Lg + r)) + ((Lg + r) - (Rg + l)))) ≤ 8 * S' + ((R' - L') + (L' - R'))
+    by_numbers S R L S' R' L' n Sg Rg Lg s r l a b d h = omega arith

@@ -5,7 +5,6 @@ pub mod Casts
 pub mod BlockSteps
 pub mod BoxLemmas
 pub mod OpenBlocks
-pub mod Joined
 pub mod Reordered
 pub mod Columns
 pub mod EndLemmas
@@ -17,6 +16,8 @@ pub mod ClearBlocks
 pub mod Known
 pub mod Parity
 pub mod Exchanged
+pub mod RestLemmas
+pub mod LossLemmas
 pub mod Taking
 pub mod DrawnEnds
 pub mod Ended

@@ -15,7 +15,7 @@ use Rattle.tree_choice.proofs.BlockSteps.{counts_at_most}
 abbrev pub one : Bool → ℕ
 one b = cond b 1 0
 
-kept_one : (o : Option Piece) → length (cons_option o []) ≡ one (is_some o)
+pub kept_one : (o : Option Piece) → length (cons_option o []) ≡ one (is_some o)
 kept_one None = refl
 kept_one (Some x) = refl
 

@@ -21,3 +21,9 @@ AreCountsBelow lines partition ps limit counted =
 -- the cost by the counts
 abbrev pub cost_by : Counts → ℕ
 cost_by c = 8 * c.splits + ((c.right - c.left) + (c.left - c.right))
+
+-- none of the counts is above a number
+pub record AreAtMost (c : Counts) (n : ℕ) : Type 0 where
+  pub splits : c.splits ≤ n
+  pub right : c.right ≤ n
+  pub left : c.left ≤ n

@@ -1,34 +1,25 @@
 //! What is known of a list's pieces, carried to a part of the list: the part is the list without some pieces, and with
-//! some new ones in their place.
-ghost use Rattle.std.specs.Prelude.{◌≡◌, ℕ, ◌+◌, ◌<◌, ◌≤◌, ◌^◌, true, List, [], length, All, IfOk, IfSome, OnOk};
+//! the rests of others in their place.
+ghost use Rattle.std.specs.Prelude.{◌≡◌, ◌⊎◌, ◌+◌, ◌<◌, ◌≤◌, true, List, length, All, IfOk, IfSome, OnOk};
 ghost use Rattle.tree_pieces.specs.declared.edge.Edge.{Edge};
 ghost use Rattle.tree_pieces.specs.declared.piece.Piece.{Piece};
 ghost use Rattle.tree_pieces.specs.Pieces.{IsPiece};
-ghost use Rattle.tree_choice.specs.Candidates.{AreEnded};
 ghost use Rattle.tree_choice.specs.Floors.{IsFloor, AreFloors, AreKnown, IsExchanged};
 ghost use Rattle.tree_choice.specs.Exchanges.{IsUnderWay, IsExchangeOf};
+ghost use Rattle.tree_choice.specs.Losses.{IsLossBlock, wholes, rests, losses_in};
 
 use crate::candidate::Candidate;
-use crate::ends::{EndedList, EndedPieces};
 use crate::floors::{Floor, floor_at};
-use crate::walk::count_blocks;
+use crate::losses::{Loss, LossBlock, change_by, is_same_fraction, loss_blocks};
 use std::alloc::{AllocError, Global};
-use tree_pieces::{Frac, Lines, Piece};
+use tree_pieces::{Lines, Piece};
 
-/// What a list loses and gains as it becomes a part of it, and what is known of the part's first pieces as partitions
-/// of the list.
+/// What a list loses as it becomes a part of it, and what is known of the part's first pieces as partitions of the
+/// list.
 #[derive(Drop)]
 pub(crate) struct Exchange {
-    pub lost: Vec<Piece>,
-    pub gained: Vec<Piece>,
+    pub losses: Vec<Loss>,
     pub floors: Vec<Floor>,
-}
-
-// Whether two fractions have the same two numbers.
-fn is_same_fraction(a: Frac, b: Frac) -> bool
-    ensures { result ≡ true → a ≡ b }
-{
-    a.n == b.n && a.d == b.d
 }
 
 // Whether two pieces are of one side of one line.
@@ -46,7 +37,17 @@ fn is_same(a: &Piece, b: &Piece) -> bool
     is_same_side(a, b) && is_same_fraction(a.from, b.from) && is_same_fraction(a.to, b.to)
 }
 
-// Takes the next piece of a list: it is the next one of the part, or it is gone, and what is left of it is new.
+// Whether one piece is a rest of the other: of the same side, with the same beginning or the same end.
+fn is_rest(a: &Piece, b: &Piece) -> bool
+    ensures line { result ≡ true → a.now.line ≡ b.now.line }
+    ensures side { result ≡ true → a.now.side ≡ b.now.side }
+    ensures ends { result ≡ true → (a.now.from ≡ b.now.from) ⊎ (a.now.to ≡ b.now.to) }
+{
+    is_same_side(a, b) && (is_same_fraction(a.from, b.from) || is_same_fraction(a.to, b.to))
+}
+
+// Takes the next piece of a list: it is the next one of the part, or it is lost, and the part's next one may be its
+// rest. As partitions a piece and its rest are one.
 fn take_next(
     pieces: &[Piece],
     n: usize,
@@ -67,18 +68,25 @@ fn take_next(
         exchange.floors.push(floor_at(floors, n))?;
         return Ok(());
     }
-    exchange.lost.push(*piece)?;
-    if at < part.len() && is_same_side(piece, &part[at]) {
-        exchange.gained.push(part[at])?;
-        exchange.floors.push(Floor::AtLeast(0))?;
+    if at < part.len() && is_rest(piece, &part[at]) {
+        exchange.losses.push(Loss {
+            piece: *piece,
+            rest: Some(part[at]),
+        })?;
+        exchange.floors.push(floor_at(floors, n))?;
+        return Ok(());
     }
+    exchange.losses.push(Loss {
+        piece: *piece,
+        rest: None,
+    })?;
     Ok(())
 }
 
-// How many pieces a list may lose or gain at most for what is known of it to be carried to a part.
+// How many pieces a list may lose at most for what is known of it to be carried to a part.
 const MOST: usize = 256;
 
-// What a list loses and gains as it becomes this part, or None if either is more than `MOST` pieces.
+// What a list loses as it becomes this part, or None if that is more than `MOST` pieces.
 fn exchange_of(
     alloc: Global,
     pieces: &[Piece],
@@ -89,47 +97,35 @@ fn exchange_of(
         (IsExchangeOf pieces.now floors.now part.now)) }
 {
     let mut exchange = Exchange {
-        lost: Vec::new(alloc),
-        gained: Vec::new(alloc),
+        losses: Vec::new(alloc),
         floors: Vec::with_capacity(alloc, part.len())?,
     };
     for n in 0..pieces.len() {
         take_next(pieces, n, floors, part, &mut exchange)?;
-        if exchange.lost.len() > MOST {
+        if exchange.losses.len() > MOST {
             return Ok(None);
         }
     }
-    if exchange.floors.len() < part.len()
-        || exchange.gained.len() > MOST
-        || exchange.lost.len() > MOST
-    {
+    if exchange.floors.len() < part.len() || exchange.losses.len() > MOST {
         return Ok(None);
     }
     Ok(Some(exchange))
 }
 
 // What is known of a piece as a partition of a part, by what is known of it in the list.
-fn known_in_part(
-    lines: &Lines,
-    piece: &Piece,
-    known: Floor,
-    gone: &EndedPieces,
-    new: &EndedPieces,
-) -> Floor
+fn known_in_part(lines: &Lines, piece: &Piece, known: Floor, blocks: &[LossBlock]) -> Floor
     requires piece { IsPiece lines.now piece.now }
-    requires gone { AreEnded lines.now gone.now }
-    requires new { AreEnded lines.now new.now }
-    requires few_gone { length gone.now.pieces.now ≤ 256 }
-    requires few_new { length new.now.pieces.now ≤ 256 }
+    requires blocks { All (IsLossBlock lines.now) blocks.now }
+    requires few { length (losses_in blocks.now) ≤ 256 }
     ensures { (ps part : List Piece) →
-        IsExchanged ps part gone.now.pieces.now new.now.pieces.now →
+        IsExchanged ps part (wholes (losses_in blocks.now)) (rests (losses_in blocks.now)) →
         IsFloor lines.now ps piece.now known → IsFloor lines.now part piece.now result }
 {
     if known.says_nothing() {
         return Floor::AtLeast(0);
     }
     let by = Candidate::of(lines, piece);
-    known.lowered(count_blocks(&by, gone), count_blocks(&by, new))
+    known.lowered(change_by(&by, blocks))
 }
 
 // What is known of all pieces of a part as partitions of it, by what is known of them in the list.
@@ -138,29 +134,26 @@ fn known_in_all(
     lines: &Lines,
     part: &[Piece],
     floors: &[Floor],
-    gone: &EndedPieces,
-    new: &EndedPieces,
+    blocks: &[LossBlock],
 ) -> Result<Vec<Floor>, AllocError>
     requires part { All (IsPiece lines.now) part.now }
-    requires gone { AreEnded lines.now gone.now }
-    requires new { AreEnded lines.now new.now }
-    requires few_gone { length gone.now.pieces.now ≤ 256 }
-    requires few_new { length new.now.pieces.now ≤ 256 }
+    requires blocks { All (IsLossBlock lines.now) blocks.now }
+    requires few { length (losses_in blocks.now) ≤ 256 }
     ensures { IfOk result (λ all. (ps : List Piece) →
-        IsExchanged ps part.now gone.now.pieces.now new.now.pieces.now →
+        IsExchanged ps part.now (wholes (losses_in blocks.now)) (rests (losses_in blocks.now)) →
         AreFloors lines.now ps part.now floors.now →
         AreFloors lines.now part.now part.now all.items) }
 {
     let mut all = Vec::with_capacity(alloc, part.len())?;
     for (n, piece) in part.iter().enumerate() {
         let known = floor_at(floors, n);
-        all.push(known_in_part(lines, piece, known, gone, new))?;
+        all.push(known_in_part(lines, piece, known, blocks))?;
     }
     Ok(all)
 }
 
 /// What is known of the pieces of a part of a list as partitions of it, by what `floors` has of them as partitions of
-/// the list. If the list loses or gains more than 256 pieces, nothing is remembered.
+/// the list. If the list loses more than 256 pieces, nothing is remembered.
 pub fn floors_of_part(
     alloc: Global,
     lines: &Lines,
@@ -177,18 +170,9 @@ pub fn floors_of_part(
         Some(exchange) => exchange,
     };
     let Exchange {
-        lost,
-        gained,
+        losses,
         floors: known,
     } = exchange;
-    let gone = EndedList::of(alloc, lines, lost)?;
-    let new = EndedList::of(alloc, lines, gained)?;
-    known_in_all(
-        alloc,
-        lines,
-        part,
-        &known,
-        &gone.as_slices(),
-        &new.as_slices(),
-    )
+    let blocks = loss_blocks(alloc, lines, losses)?;
+    known_in_all(alloc, lines, part, &known, &blocks)
 }

@@ -6,6 +6,7 @@ ghost use Rattle.tree_choice.specs.Counts.{AreCountsBelow};
 ghost use Rattle.tree_choice.specs.Floors.{IsFloor, AreFloors};
 
 use crate::counts::Counts;
+use crate::losses::Change;
 
 /// What is known of a piece as the partition of a list.
 #[derive(Clone, Copy, Debug, PartialEq, Eq)]
@@ -21,8 +22,9 @@ impl Floor {
     ghost use Rattle.tree_pieces.specs.declared.edge.Edge.{Edge};
     ghost use Rattle.tree_pieces.specs.declared.piece.Piece.{Piece};
     ghost use Rattle.tree_pieces.specs.Tree.{Separates, cost};
-    ghost use Rattle.tree_choice.specs.Counts.{AreCounts, AreCountsBelow};
-    ghost use Rattle.tree_choice.specs.Floors.{IsFloor, IsExchanged};
+    ghost use Rattle.tree_choice.specs.Counts.{AreCountsBelow};
+    ghost use Rattle.tree_choice.specs.Floors.{IsFloor};
+    ghost use Rattle.tree_choice.specs.Losses.{IsChange};
 
     // Whether a piece of which this is known costs the limit or more, if it separates the list at all.
     pub(crate) fn reaches(self, limit: u64) -> bool
@@ -60,12 +62,14 @@ impl Floor {
         }
     }
 
-    // What is known of a piece in another list, by its counts of what the list loses and gains.
-    pub(crate) fn lowered(self, gone: Counts, new: Counts) -> Floor
-        ensures { (lines : List Edge) (ps part lost gained : List Piece) (p : Piece) →
-            IsExchanged ps part lost gained → AreCounts lines p lost gone →
-            AreCounts lines p gained new → IsFloor lines ps p self → IsFloor lines part p result }
+    // What is known of a piece in a part of the list, by what its counts lose and gain.
+    pub(crate) fn lowered(self, change: Change) -> Floor
+        ensures { (lines : List Edge) (ps part : List Piece) (p : Piece) →
+            IsChange lines p ps part change → IsFloor lines ps p self →
+            IsFloor lines part p result }
     {
+        let gone = change.lost;
+        let new = change.gained;
         match self {
             Floor::AtLeast(cost) => {
                 let fewer = 8 * gone.splits.saturating_sub(new.splits) as u64;

@@ -13,6 +13,7 @@ mod end_boxes;
 mod ends;
 mod exchange;
 mod floors;
+mod losses;
 mod map_choice;
 mod margins;
 mod sorting;

@@ -1,9 +1,10 @@
 //! An order of pieces by their places, in strips.
-ghost use Rattle.std.specs.Prelude.{◌≡◌, ◌<◌, ◌^◌, length, IfOk};
+ghost use Rattle.std.specs.Prelude.{◌≡◌, ◌<◌, ◌^◌, length, IfOk, OnOk};
 ghost use Rattle.std.specs.List.{range_with_len};
 ghost use Rattle.std.specs.List.Sorted.{IsPermutation};
 
 use crate::block_boxes::BLOCK;
+use crate::losses::Loss;
 use std::alloc::{AllocError, Global};
 use tree_pieces::{Edge, Lines, Piece};
 
@@ -118,4 +119,25 @@ pub fn numbers_by_place(
         None => (0, 0),
     })?;
     Ok(order)
+}
+
+/// Puts losses in the same order, by the pieces that are lost. Those of one block stay as they are.
+pub(crate) fn sort_losses(
+    alloc: Global,
+    lines: &Lines,
+    losses: &mut Vec<Loss>,
+) -> Result<(), AllocError>
+    ensures { OnOk result (IsPermutation losses.old.items losses.new.items) }
+{
+    if losses.len() <= BLOCK {
+        return Ok(());
+    }
+    let edges = lines.as_slice();
+    let mut pieces = Vec::with_capacity(alloc, losses.len())?;
+    for loss in losses.iter() {
+        pieces.push(loss.piece)?;
+    }
+    let strips = Strips::over(edges, &pieces);
+    losses.sort_by_cached_key(|loss| strips.key_of(edges, &loss.piece))?;
+    Ok(())
 }

@@ -185,9 +185,9 @@ fn count_flagged(by: &Candidate, pieces: &[Piece], flags: &[bool], clear: Counts
     count_open_ones(by, pieces, &places[..count], clear)
 }
 
-// The counts of a block: first of the pieces that their rounded ends decide, then of the others.
+/// The counts of a block: first of the pieces that their rounded ends decide, then of the others.
 #[inline(never)]
-fn count_block(by: &Candidate, list: &EndedPieces) -> Counts
+pub(crate) fn count_block(by: &Candidate, list: &EndedPieces) -> Counts
     requires candidate { IsSighted by.now }
     requires list { AreEnded by.now.lines.now list.now }
     requires few { length list.now.pieces.now ≤ 16 }
@@ -225,29 +225,6 @@ pub(crate) fn count_list(by: &Candidate, list: &EndedPieces, limit: u64) -> Opti
         return Some(clear);
     }
     Some(count_flagged(by, pieces, flags, clear))
-}
-
-/// The counts of a list of a few blocks, block by block.
-pub(crate) fn count_blocks(by: &Candidate, list: &EndedPieces) -> Counts
-    requires candidate { IsSighted by.now }
-    requires list { AreEnded by.now.lines.now list.now }
-    requires few { length list.now.pieces.now ≤ 256 }
-    ensures { AreCountsBy by.now list.now.pieces.now result }
-{
-    let pieces = list.pieces;
-    let mut counts = Counts::NONE;
-    let mut from = 0;
-    while from < pieces.len() {
-        let end = (from + BLOCK).min(pieces.len());
-        let block = EndedPieces {
-            pieces: &pieces[from..end],
-            firsts: &list.firsts[from..end],
-            lasts: &list.lasts[from..end],
-        };
-        counts = counts.plus(count_block(by, &block));
-        from = end;
-    }
-    counts
 }
 
 // The counts of the block of this number: by the boxes round its ends if both lie on one side, else piece by piece.

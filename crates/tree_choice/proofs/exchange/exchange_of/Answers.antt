@@ -12,6 +12,5 @@ pub returns : goal.returns
 returns c =
     let a = c.loop-n-test.false in
     let b = c.if-len-part.false in
-    let g = c.if-len-gt-MOST-2.false in
-    let l = c.if-len-gt-MOST-3.false in
-    taken_all c.args.pieces.now c.args.floors.now c.args.part.now c.loop-n.n c.loop-n.exchange (omega arith) (omega arith) (omega arith) (omega arith) c.loop-n.invariant.under_way
+    let l = c.if-len-gt-MOST-2.false in
+    taken_all c.args.pieces.now c.args.floors.now c.args.part.now c.loop-n.n c.loop-n.exchange (omega arith) (omega arith) (omega arith) c.loop-n.invariant.under_way

@@ -1,34 +1,38 @@
-use Rattle.std.proofs.Common.{Option, sym, subst, All}
-use Rattle.std.specs.Prelude.{IfSome}
+use Rattle.std.proofs.Common.{Option, ◌≤◌, sym, subst, length, List, arith}
+use Rattle.std.proofs.lemmas.List.Sorted.{length_permutation}
+use Rattle.std.specs.Prelude.{IfSome, IfOk, Result, Ok, Err}
 use Rattle.tree_choice.specs.declared.exchange.Exchange.{Exchange}
+use Rattle.tree_choice.specs.declared.losses.LossBlock.{LossBlock}
 use Rattle.tree_choice.specs.Exchanges.{IsExchangeOf}
-use Rattle.tree_pieces.specs.Pieces.{IsPiece}
-use Rattle.tree_choice.proofs.Ended.{ended_in}
+use Rattle.tree_choice.specs.Floors.{AreFloors, IsExchanged}
+use Rattle.tree_choice.specs.Losses.{losses_in, wholes, rests}
+use Rattle.tree_choice.proofs.LossLemmas.{exchanged_in_order}
 use Rattle.tree_choice.proofs.exchange.floors_of_part.Goals as goal
 use Rattle.tree_choice.proofs.exchange.floors_of_part.Goals.{In-Some}
 
--- what the list loses and gains
+-- what the list loses
 whole : (c : In-Some) → IsExchangeOf c.args.pieces.now c.args.floors.now c.args.part.now c.in-Some.exchange
 whole c = subst (λ (o : Option Exchange). IfSome o (IsExchangeOf c.args.pieces.now c.args.floors.now c.args.part.now)) c.in-Some.is c.in_ok-exchange_of.ensures
 
-pub of-requires : goal.of-requires
-of-requires c = (whole (goal.at.of-requires c).In-Some).lost c.args.lines.now c.requires.floors.pieces
+pub loss_blocks-requires : goal.loss_blocks-requires
+loss_blocks-requires c = (whole (goal.at.loss_blocks-requires c).In-Some).each c.args.lines.now c.requires.floors.pieces c.requires.part
 
-pub of-requires-2 : goal.of-requires-2
-of-requires-2 c = (whole (goal.at.of-requires-2 c).In-Some).gained c.args.lines.now c.requires.part
+pub known_in_all-requires-clause-few : goal.known_in_all-requires-clause-few
+known_in_all-requires-clause-few c =
+    let few = (whole (goal.at.known_in_all-requires-clause-few c).In-Some).few in
+    let same = length_permutation c.in-Some.exchange.losses.items (losses_in c.in_ok-blocks.blocks.items) c.in_ok-blocks.ensures.losses in
+    subst (λ (bs : List LossBlock). length (losses_in bs) ≤ 256) (sym c.deref-2.ensures.value) (omega arith)
 
-pub known_in_all-requires-clause-gone : goal.known_in_all-requires-clause-gone
-known_in_all-requires-clause-gone c =
-    let w = whole (goal.at.known_in_all-requires-clause-gone c).In-Some in
-    let e = c.as_slices.ensures in
-    let gone = c.in_ok-gone.gone in
-    ended_in c.args.lines.now c.as_slices.result gone
-    (subst (All (IsPiece c.args.lines.now)) (sym c.in_ok-gone.ensures.pieces) (w.lost c.args.lines.now c.requires.floors.pieces)) c.in_ok-gone.ensures.ends e.pieces e.firsts e.lasts
+-- what is so of a value that is there, if what it follows from is
+if_ok : {T E : Type 0} {P Q : T → Type 0} (r : Result T E) → ((x : T) → P x → Q x) → IfOk r P → IfOk r Q
+if_ok (Ok x) f k = f x k
+if_ok (Err e) f k = tt
 
-pub known_in_all-requires-clause-new : goal.known_in_all-requires-clause-new
-known_in_all-requires-clause-new c =
-    let w = whole (goal.at.known_in_all-requires-clause-new c).In-Some in
-    let e = c.as_slices-2.ensures in
-    let new = c.in_ok-new.new in
-    ended_in c.args.lines.now c.as_slices-2.result new
-    (subst (All (IsPiece c.args.lines.now)) (sym c.in_ok-new.ensures.pieces) (w.gained c.args.lines.now c.requires.part)) c.in_ok-new.ensures.ends e.pieces e.firsts e.lasts
+pub returns : goal.returns
+returns c =
+    let lines = c.args.lines.now in
+    let w = whole (goal.at.returns c).In-Some in
+    let x = exchanged_in_order c.args.pieces.now c.args.part.now c.in-Some.exchange.losses.items (losses_in c.in_ok-blocks.blocks.items) c.in_ok-blocks.ensures.losses w.exchanged in
+    let y = subst (λ (bs : List LossBlock). IsExchanged c.args.pieces.now c.args.part.now (wholes (losses_in bs)) (rests (losses_in bs))) (sym c.deref-2.ensures.value) x in
+    if_ok c.known_in_all.result
+    (λ all k. record { pieces = c.requires.part; known = k c.args.pieces.now y (subst (AreFloors lines c.args.pieces.now c.args.part.now) (sym c.deref.ensures.value) (w.known lines c.requires.floors.known)) }) c.known_in_all.ensures
