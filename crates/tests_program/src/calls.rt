@@ -2,21 +2,21 @@
 
 use cli_program::perform;
 use cli_words::request;
-use std::io::Write;
 use std::test::Fail;
 use tests_rows::{expect_text, part};
+use tests_runs::streams::{Input, Output};
 
 /// Calls the program with these arguments and this input: its status, and its standard error.
-pub fn status_of<W: Write>(
+pub fn status_of(
     rt: &HostRuntime,
     words: &[&str],
     input: &[u8],
-    out: &mut W,
+    out: &mut Output,
 ) -> Result<(u8, Vec<u8>), Fail> {
     let Ok(asked) = request(rt.alloc(), words) else {
         return Err(Fail::from("no request"));
     };
-    let mut reader = input;
+    let mut reader = Input::of(input);
     let mut faults = Vec::new(rt.alloc());
     let status = perform(rt, &asked, &mut reader, out, &mut faults);
     Ok((status, faults))
@@ -32,9 +32,9 @@ pub fn performed(rt: &HostRuntime, words: &str, input: &[u8]) -> Result<Ended, F
     for word in words.split(' ') {
         all.push(word)?;
     }
-    let mut out = Vec::new(rt.alloc());
+    let mut out = Output::new(rt.alloc());
     let (status, faults) = status_of(rt, &all, input, &mut out)?;
-    Ok((status, out, faults))
+    Ok((status, out.written()?, faults))
 }
 
 /// The same as a row has it: the status, the output and standard error, which `~` divides.

@@ -2,19 +2,18 @@
 
 use cli_program::perform;
 use cli_words::request;
-use std::io::{Read, Write};
 use std::test::Fail;
-use tests_runs::streams::{Drip, Narrow};
+use tests_runs::streams::{Input, Output};
 
 const ROW: &[u8] = b"vertex 0 0\nvertex 128 0\nhex VERTEXES\n";
 
 const ROW_ANSWERS: &[u8] = b"ok 0\nok 1\n00 00 00 00 80 00 00 00\n";
 
 // The status of `scratch` over this reader; it must print this on standard error.
-fn scratch<R: Read, W: Write>(
+fn scratch(
     rt: &HostRuntime,
-    reader: &mut R,
-    writer: &mut W,
+    reader: &mut Input<'_>,
+    writer: &mut Output,
     said: &[u8],
 ) -> Result<u8, Fail> {
     let mut faults = Vec::new(rt.alloc());
@@ -30,15 +29,15 @@ fn scratch<R: Read, W: Write>(
 }
 
 // The status of `scratch`, and its output.
-fn written<R: Read>(rt: &HostRuntime, reader: &mut R, said: &[u8]) -> Result<(u8, Vec<u8>), Fail> {
-    let mut out = Vec::new(rt.alloc());
+fn written(rt: &HostRuntime, reader: &mut Input<'_>, said: &[u8]) -> Result<(u8, Vec<u8>), Fail> {
+    let mut out = Output::new(rt.alloc());
     let status = scratch(rt, reader, &mut out, said)?;
-    Ok((status, out))
+    Ok((status, out.written()?))
 }
 
 #[test]
 fn performs_scratch(rt: HostRuntime) -> Result<(), Fail> {
-    let (status, out) = written(&rt, &mut ROW, b"")?;
+    let (status, out) = written(&rt, &mut Input::of(ROW), b"")?;
     assert_eq!(rt; (status, out.as_slice()), (0, ROW_ANSWERS));
     Ok(())
 }
@@ -46,14 +45,14 @@ fn performs_scratch(rt: HostRuntime) -> Result<(), Fail> {
 // Each turn reads one byte, so the run takes many turns.
 #[test]
 fn performs_scratch_byte_by_byte(rt: HostRuntime) -> Result<(), Fail> {
-    let (status, out) = written(&rt, &mut Drip::of(ROW, false), b"")?;
+    let (status, out) = written(&rt, &mut Input::slow(ROW, false), b"")?;
     assert_eq!(rt; (status, out.as_slice()), (0, ROW_ANSWERS));
     Ok(())
 }
 
 #[test]
 fn tells_of_a_reader_that_fails(rt: HostRuntime) -> Result<(), Fail> {
-    let mut broken = Drip::of(b"vertex 0 0\nvert", true);
+    let mut broken = Input::slow(b"vertex 0 0\nvert", true);
     let (status, out) = written(&rt, &mut broken, b"leveled: 37 ReaderFailed\n")?;
     assert_eq!(rt; (status, out.as_slice()), (1, b"ok 0\n".as_slice()));
     Ok(())
@@ -62,7 +61,8 @@ fn tells_of_a_reader_that_fails(rt: HostRuntime) -> Result<(), Fail> {
 #[test]
 fn tells_of_a_writer_that_fails(rt: HostRuntime) -> Result<(), Fail> {
     let said = b"leveled: 38 WriterFailed\n";
-    let status = scratch(&rt, &mut ROW, &mut Narrow::of(2), said)?;
+    let (mut reader, mut writer) = (Input::of(ROW), Output::of(rt.alloc(), 2));
+    let status = scratch(&rt, &mut reader, &mut writer, said)?;
     assert_eq!(rt; status, 1);
     Ok(())
 }

@@ -2,10 +2,9 @@
 
 use cli_program::perform_typed;
 use cli_words::Request;
-use std::io::{Read, Write};
 use std::test::Fail;
 use tests_rows::{expect_text, script_halves};
-use tests_runs::streams::{Drip, Held, Narrow};
+use tests_runs::streams::{Input, Output};
 
 // What is typed, what standard output has then, and what standard error.
 const SESSIONS: &str = "\
@@ -29,10 +28,10 @@ const SESSIONS: &str = "\
     no such line; help lists them\n~";
 
 // The status of a session over this reader; it must print this on standard error.
-fn typed<R: Read, W: Write>(
+fn typed(
     rt: &HostRuntime,
-    reader: &mut R,
-    writer: &mut W,
+    reader: &mut Input<'_>,
+    writer: &mut Output,
     said: &[u8],
 ) -> Result<u8, Fail> {
     let mut faults = Vec::new(rt.alloc());
@@ -45,17 +44,17 @@ fn typed<R: Read, W: Write>(
 }
 
 // The status of a session, and its output.
-fn written<R: Read>(rt: &HostRuntime, reader: &mut R, said: &[u8]) -> Result<(u8, Vec<u8>), Fail> {
-    let mut out = Vec::new(rt.alloc());
+fn written(rt: &HostRuntime, reader: &mut Input<'_>, said: &[u8]) -> Result<(u8, Vec<u8>), Fail> {
+    let mut out = Output::new(rt.alloc());
     let status = typed(rt, reader, &mut out, said)?;
-    Ok((status, out))
+    Ok((status, out.written()?))
 }
 
 // A session over this reader has the output and the standard error that are wanted.
-fn expect_session<R: Read>(
+fn expect_session(
     rt: &HostRuntime,
     row: &str,
-    reader: &mut R,
+    reader: &mut Input<'_>,
     wanted: &str,
 ) -> Result<(), Fail> {
     let (answers, said) = script_halves(wanted);
@@ -69,9 +68,8 @@ fn expect_session<R: Read>(
 // What is typed in a row is answered as it says, pasted and byte by byte.
 fn expect_typed(rt: &HostRuntime, row: &str) -> Result<(), Fail> {
     let (lines, wanted) = script_halves(row);
-    let mut reader = lines.as_bytes();
-    expect_session(rt, row, &mut reader, wanted)?;
-    expect_session(rt, row, &mut Drip::of(lines.as_bytes(), false), wanted)
+    expect_session(rt, row, &mut Input::of(lines.as_bytes()), wanted)?;
+    expect_session(rt, row, &mut Input::slow(lines.as_bytes(), false), wanted)
 }
 
 #[test]
@@ -84,29 +82,26 @@ fn answers_what_is_pasted_and_what_comes_byte_by_byte(rt: HostRuntime) -> Result
 
 #[test]
 fn leaves_what_is_behind_quit(rt: HostRuntime) -> Result<(), Fail> {
-    let mut reader = b"vertex 0 0\nquit\nls\n".as_slice();
+    let mut reader = Input::of(b"vertex 0 0\nquit\nls\n");
     let (status, out) = written(&rt, &mut reader, b"")?;
     assert_eq!(rt; (status, out.as_slice()), (0, b"ok 0\n".as_slice()));
-    assert_eq!(rt; reader, b"ls\n".as_slice());
+    assert_eq!(rt; reader.left, b"ls\n".as_slice());
     Ok(())
 }
 
 #[test]
 fn flushes_each_answer(rt: HostRuntime) -> Result<(), Fail> {
-    let mut writer = Held {
-        held: Vec::new(rt.alloc()),
-        seen: Vec::new(rt.alloc()),
-    };
-    let mut reader = Drip::of(b"vertex 0 0\nhelp castle\nquit\n", false);
+    let mut writer = Output::new(rt.alloc());
+    let mut reader = Input::slow(b"vertex 0 0\nhelp castle\nquit\n", false);
     let status = typed(&rt, &mut reader, &mut writer, b"")?;
-    let seen = b"ok 0\nno such line; help lists them\n".as_slice();
-    assert_eq!(rt; (status, writer.seen.as_slice()), (0, seen));
+    let flushed = b"ok 0\nno such line; help lists them\n".as_slice();
+    assert_eq!(rt; (status, writer.flushed.as_slice()), (0, flushed));
     Ok(())
 }
 
 #[test]
 fn tells_of_a_reader_that_fails(rt: HostRuntime) -> Result<(), Fail> {
-    let mut broken = Drip::of(b"vertex 0 0\nvert", true);
+    let mut broken = Input::slow(b"vertex 0 0\nvert", true);
     let (status, out) = written(&rt, &mut broken, b"leveled: 37 ReaderFailed\n")?;
     assert_eq!(rt; (status, out.as_slice()), (1, b"ok 0\n".as_slice()));
     Ok(())
@@ -115,8 +110,8 @@ fn tells_of_a_reader_that_fails(rt: HostRuntime) -> Result<(), Fail> {
 #[test]
 fn tells_of_a_writer_that_fails(rt: HostRuntime) -> Result<(), Fail> {
     let said = b"leveled: 38 WriterFailed\n";
-    let mut reader = b"vertex 0 0\nvertex 64 0\n".as_slice();
-    let status = typed(&rt, &mut reader, &mut Narrow::of(2), said)?;
-    assert_eq!(rt; (status, reader), (1, b"vertex 64 0\n".as_slice()));
+    let mut reader = Input::of(b"vertex 0 0\nvertex 64 0\n");
+    let status = typed(&rt, &mut reader, &mut Output::of(rt.alloc(), 2), said)?;
+    assert_eq!(rt; (status, reader.left), (1, b"vertex 64 0\n".as_slice()));
     Ok(())
 }

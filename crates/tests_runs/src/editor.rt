@@ -1,11 +1,10 @@
 //! Lines and their answers in memory.
 
 use crate::expect::same;
-use crate::streams::{Drip, Endless, Held, Narrow};
+use crate::streams::{Input, Output};
 use map_tables::Map;
 use run_edit::{EditorError, run_in_memory, write_findings};
 use std::alloc::Global;
-use std::io::Read;
 use std::process::Abort;
 use std::test::Fail;
 use tests_rows::expect_scripts;
@@ -14,17 +13,19 @@ const ROW: &[u8] = b"vertex 0 0\nvertex 128 0\nhex VERTEXES\n";
 
 const ROW_ANSWERS: &[u8] = b"ok 0\nok 1\n00 00 00 00 80 00 00 00\n";
 
-// Runs over these bytes: how many lines it answered, or why it ended, and what it wrote.
-fn run(alloc: Global, input: &[u8], turns: u32) -> (Result<u64, EditorError>, Vec<u8>) {
-    let mut reader = input;
-    let mut out = Vec::new(alloc);
-    let answered = run_in_memory(alloc, &mut reader, &mut out, turns);
-    (answered, out)
+// How many lines a run answered, or why it ended, and what it wrote.
+type Ended = (Result<u64, EditorError>, Vec<u8>);
+
+// Runs over this reader.
+fn run(alloc: Global, reader: &mut Input<'_>, turns: u32) -> Result<Ended, Fail> {
+    let mut out = Output::new(alloc);
+    let answered = run_in_memory(alloc, reader, &mut out, turns);
+    Ok((answered, out.written()?))
 }
 
 // How many lines of this input are answered, or why the run ends, and what it writes.
 fn told(alloc: Global, input: &[u8], turns: u32) -> Result<String, Fail> {
-    let (answered, out) = run(alloc, input, turns);
+    let (answered, out) = run(alloc, &mut Input::of(input), turns)?;
     let out = String::from_utf8(out)?;
     Ok(format!(in alloc; "{answered:?} {out}")?)
 }
@@ -32,7 +33,7 @@ fn told(alloc: Global, input: &[u8], turns: u32) -> Result<String, Fail> {
 /// The answers to the lines of a row behind its first one, which says what is tested.
 pub fn answered(alloc: Global, row: &str) -> Result<String, Fail> {
     let (_, lines) = row.split_once('\n').unwrap_or(("", row));
-    let (answered, out) = run(alloc, lines.as_bytes(), 2);
+    let (answered, out) = run(alloc, &mut Input::of(lines.as_bytes()), 2)?;
     match answered {
         Ok(_) => Ok(String::from_utf8(out)?),
         Err(_) => Err(Fail::from("the run ended early")),
@@ -100,52 +101,51 @@ fn answers_lines_behind_a_long_one(rt: HostRuntime) -> Result<(), Fail> {
 }
 
 // Whether a run over this input uses up its turns, with this output.
-fn is_too_long<R: Read>(alloc: Global, reader: &mut R, turns: u32, wanted: &[u8]) -> bool {
-    let mut out = Vec::new(alloc);
-    let answered = run_in_memory(alloc, reader, &mut out, turns);
-    answered == Err(EditorError::InputTooLong) && out.as_slice() == wanted
+fn is_too_long(
+    alloc: Global,
+    reader: &mut Input<'_>,
+    turns: u32,
+    wanted: &[u8],
+) -> Result<bool, Fail> {
+    let (answered, out) = run(alloc, reader, turns)?;
+    Ok(answered == Err(EditorError::InputTooLong) && out.as_slice() == wanted)
 }
 
 #[test]
-fn counts_turns(rt: HostRuntime) {
-    let (mut one, mut none) = (ROW, ROW);
-    assert!(rt; is_too_long(rt.alloc(), &mut one, 1, ROW_ANSWERS));
-    assert!(rt; is_too_long(rt.alloc(), &mut none, 0, b""));
+fn counts_turns(rt: HostRuntime) -> Result<(), Fail> {
+    let one = is_too_long(rt.alloc(), &mut Input::of(ROW), 1, ROW_ANSWERS)?;
+    let none = is_too_long(rt.alloc(), &mut Input::of(ROW), 0, b"")?;
     // A run makes no more reads than it has turns.
-    let mut endless = Endless { reads: 0 };
-    assert!(rt;
-        is_too_long(
-            rt.alloc(),
-            &mut endless,
-            5,
-            b"no 1\nno 1\nno 1\nno 1\nno 1\n"
-        )
-    );
-    assert_eq!(rt; endless.reads, 5);
+    let mut many = Input::slow(b"\n\n\n\n\n\n\n\n", false);
+    let five = b"no 1\nno 1\nno 1\nno 1\nno 1\n";
+    let is_five = is_too_long(rt.alloc(), &mut many, 5, five)?;
+    assert_eq!(rt; (one, none, is_five, many.reads), (true, true, true, 5));
+    Ok(())
 }
 
 // 37 reads of one byte each, and one that finds the end.
 #[test]
-fn takes_a_turn_for_each_read(rt: HostRuntime) {
-    assert!(rt; is_too_long(rt.alloc(), &mut Drip::of(ROW, false), 37, ROW_ANSWERS));
-    let mut out = Vec::new(rt.alloc());
-    let answered = run_in_memory(rt.alloc(), &mut Drip::of(ROW, false), &mut out, 38);
-    assert_eq!(rt; answered, Ok(3));
-    assert!(rt; out.as_slice() == ROW_ANSWERS);
+fn takes_a_turn_for_each_read(rt: HostRuntime) -> Result<(), Fail> {
+    let mut reader = Input::slow(ROW, false);
+    let is_too_long = is_too_long(rt.alloc(), &mut reader, 37, ROW_ANSWERS)?;
+    assert!(rt; is_too_long);
+    let (answered, out) = run(rt.alloc(), &mut Input::slow(ROW, false), 38)?;
+    assert_eq!(rt; (answered, out.as_slice()), (Ok(3), ROW_ANSWERS));
+    Ok(())
 }
 
 #[test]
-fn stops_where_the_reader_fails(rt: HostRuntime) {
-    let mut reader = Drip::of(b"vertex 0 0\nvert", true);
-    let mut out = Vec::new(rt.alloc());
-    let answered = run_in_memory(rt.alloc(), &mut reader, &mut out, 100);
-    assert_eq!(rt; answered, Err(EditorError::ReaderFailed));
-    assert_eq!(rt; out.as_slice(), b"ok 0\n".as_slice());
+fn stops_where_the_reader_fails(rt: HostRuntime) -> Result<(), Fail> {
+    let mut reader = Input::slow(b"vertex 0 0\nvert", true);
+    let (answered, out) = run(rt.alloc(), &mut reader, 100)?;
+    let failed = Err(EditorError::ReaderFailed);
+    assert_eq!(rt; (answered, out.as_slice()), (failed, b"ok 0\n".as_slice()));
+    Ok(())
 }
 
 // How a run ends whose writer takes this many bytes.
 fn answered_in(alloc: Global, room: usize) -> Result<u64, EditorError> {
-    run_in_memory(alloc, &mut ROW, &mut Narrow::of(room), 2)
+    run_in_memory(alloc, &mut Input::of(ROW), &mut Output::of(alloc, room), 2)
 }
 
 #[test]
@@ -160,8 +160,8 @@ fn stops_where_the_writer_fails(rt: HostRuntime) {
 // No further line is read after a failed write: the writer takes two bytes of the first answer and then fails.
 #[test]
 fn reads_no_line_after_one_that_was_not_told(rt: HostRuntime) {
-    let mut reader = Drip::of(ROW, false);
-    let mut writer = Narrow::of(2);
+    let mut reader = Input::slow(ROW, false);
+    let mut writer = Output::of(rt.alloc(), 2);
     let answered = run_in_memory(rt.alloc(), &mut reader, &mut writer, 100);
     assert_eq!(rt; answered, Err(EditorError::WriterFailed));
     assert_eq!(rt; reader.left, b"vertex 128 0\nhex VERTEXES\n".as_slice());
@@ -170,45 +170,35 @@ fn reads_no_line_after_one_that_was_not_told(rt: HostRuntime) {
 // No further line is answered after a failed write, even if it was read already.
 #[test]
 fn answers_no_line_after_one_that_was_not_told(rt: HostRuntime) {
-    let mut writer = Narrow::of(2);
-    let answered = run_in_memory(rt.alloc(), &mut ROW, &mut writer, 100);
+    let mut writer = Output::of(rt.alloc(), 2);
+    let answered = run_in_memory(rt.alloc(), &mut Input::of(ROW), &mut writer, 100);
     assert_eq!(rt; answered, Err(EditorError::WriterFailed));
     assert_eq!(rt; writer.failures, 1);
 }
 
-// Runs with a writer that shows only flushed bytes: how the run ended, and which answers are seen.
-fn seen<R: Read>(alloc: Global, reader: &mut R, turns: u32) -> (Result<u64, EditorError>, Vec<u8>) {
-    let mut writer = Held {
-        held: Vec::new(alloc),
-        seen: Vec::new(alloc),
-    };
-    let answered = run_in_memory(alloc, reader, &mut writer, turns);
-    let Held { held: _, seen } = writer;
-    (answered, seen)
-}
-
-// Such a run ends so, and these answers are seen.
-fn expect_seen<R: Read>(
+// A run ends so, and these answers are flushed.
+fn expect_flushed(
     rt: &impl Abort,
     alloc: Global,
-    reader: &mut R,
+    reader: &mut Input<'_>,
     turns: u32,
     want: (Result<u64, EditorError>, &[u8]),
 ) {
-    let (answered, out) = seen(alloc, reader, turns);
-    same(rt, &(answered, out.as_slice()), &want);
+    let mut writer = Output::new(alloc);
+    let answered = run_in_memory(alloc, reader, &mut writer, turns);
+    same(rt, &(answered, writer.flushed.as_slice()), &want);
 }
 
 #[test]
 fn hands_on_the_answers_of_a_turn(rt: HostRuntime) {
     let too_long = (Err(EditorError::InputTooLong), ROW_ANSWERS);
-    expect_seen(&rt, rt.alloc(), &mut ROW, 1, too_long);
-    let mut broken = Drip::of(b"vertex 0 0\nvert", true);
+    expect_flushed(&rt, rt.alloc(), &mut Input::of(ROW), 1, too_long);
+    let mut broken = Input::slow(b"vertex 0 0\nvert", true);
     let failed = (Err(EditorError::ReaderFailed), b"ok 0\n".as_slice());
-    expect_seen(&rt, rt.alloc(), &mut broken, 100, failed);
-    let mut unended: &[u8] = b"vertex 0 0\nvertex 1 0";
+    expect_flushed(&rt, rt.alloc(), &mut broken, 100, failed);
+    let mut unended = Input::of(b"vertex 0 0\nvertex 1 0");
     let ended = (Ok(2), b"ok 0\nok 1\n".as_slice());
-    expect_seen(&rt, rt.alloc(), &mut unended, 2, ended);
+    expect_flushed(&rt, rt.alloc(), &mut unended, 2, ended);
 }
 
 const CODES: &[(EditorError, u16)] = &[
@@ -226,13 +216,18 @@ fn numbers_refusals(rt: HostRuntime) {
 }
 
 #[test]
-fn writes_findings(rt: HostRuntime) {
+fn writes_findings(rt: HostRuntime) -> Result<(), Fail> {
     let map = Map::new(rt.alloc());
-    let mut out = Vec::new(rt.alloc());
+    let mut out = Output::new(rt.alloc());
     assert_eq!(rt; write_findings(rt.alloc(), &map, &mut out), Ok(1));
-    assert_eq!(rt; out.as_slice(), b"no player start\nfindings 1\n".as_slice());
+    let told = out.written()?;
+    assert_eq!(rt;
+        told.as_slice(),
+        b"no player start\nfindings 1\n".as_slice()
+    );
 
-    let mut writer = Narrow::of(20);
+    let mut writer = Output::of(rt.alloc(), 20);
     let written = write_findings(rt.alloc(), &map, &mut writer);
     assert_eq!(rt; written, Err(EditorError::WriterFailed));
+    Ok(())
 }

@@ -1,6 +1,7 @@
 //! Runs whose commands are put on the disk together, over disks on which each call in turn fails.
 
 use crate::expect::same;
+use crate::streams::{Input, Output};
 use crate::sweeping::{GEOMETRY, ROWS, Row, Way, failing, input, sweep_all};
 use run_edit::run;
 use std::alloc::Global;
@@ -43,12 +44,11 @@ fn fail_within(
     fault: (u64, u32),
 ) -> Result<Ended, Fail> {
     let mut project = failing(alloc, geometry, fault)?;
-    let mut out = Vec::new(alloc);
-    let mut reader = lines;
+    let (mut reader, mut out) = (Input::of(lines), Output::new(alloc));
     match run(alloc, &mut project, &mut reader, &mut out, 2) {
         Ok(_) => Ok(Ended {
             count: vertices(&project),
-            out,
+            out: out.written()?,
             disk: project.into_disk(),
         }),
         Err(_) => Err(Fail::from("the run didn't end")),

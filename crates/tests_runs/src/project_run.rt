@@ -1,7 +1,7 @@
 //! Lines over a project.
 
 use crate::expect::same;
-use crate::streams::Narrow;
+use crate::streams::{Input, Output};
 use run_edit::{EditorError, answer, build_after_any_stop, run};
 use std::alloc::Global;
 use std::process::Abort;
@@ -32,10 +32,10 @@ fn answered<D: Disk>(
     alloc: Global,
     project: &mut Project<D>,
     line: &[u8],
-) -> Result<Vec<u8>, EditorError> {
-    let mut out = Vec::new(alloc);
+) -> Result<Vec<u8>, Fail> {
+    let mut out = Output::new(alloc);
     answer(alloc, project, line, &mut out)?;
-    Ok(out)
+    Ok(out.written()?)
 }
 
 // Tests the answer to each line.
@@ -43,7 +43,7 @@ fn answer_all<D: Disk>(
     rt: &impl Abort,
     alloc: Global,
     project: &mut Project<D>,
-) -> Result<(), EditorError> {
+) -> Result<(), Fail> {
     for row in LINES.split('^') {
         let (line, wanted) = script_halves(row);
         let out = answered(alloc, project, line.as_bytes())?;
@@ -73,11 +73,11 @@ const RUNS: &str = "\
 // Runs over such a project.
 fn run_over(alloc: Global, call: &str) -> Result<String, Fail> {
     let mut project = failing(alloc, call.parse()?)?;
-    let mut input = b"vertex 0 0\nvertex 1 0\ncount\nvertex 2 0\n".as_slice();
-    let mut out = Vec::new(alloc);
+    let mut input = Input::of(b"vertex 0 0\nvertex 1 0\ncount\nvertex 2 0\n");
+    let mut out = Output::new(alloc);
     let answered = run(alloc, &mut project, &mut input, &mut out, 2);
     let count = vertices(&project);
-    let out = String::from_utf8(out)?;
+    let out = String::from_utf8(out.written()?)?;
     Ok(format!(in alloc; "{answered:?} {count} {out}")?)
 }
 
@@ -89,7 +89,8 @@ fn runs_over_a_project(rt: HostRuntime) -> Result<(), Fail> {
 #[test]
 fn keeps_what_it_could_not_tell(rt: HostRuntime) -> Result<(), Fail> {
     let mut project = failing(rt.alloc(), 99)?;
-    let told = answer(rt.alloc(), &mut project, b"vertex 0 0", &mut Narrow::of(0));
+    let mut none = Output::of(rt.alloc(), 0);
+    let told = answer(rt.alloc(), &mut project, b"vertex 0 0", &mut none);
     assert_eq!(rt;
         (told, vertices(&project)),
         (Err(EditorError::WriterFailed), 1)
@@ -101,8 +102,8 @@ fn keeps_what_it_could_not_tell(rt: HostRuntime) -> Result<(), Fail> {
 // and how many when it is opened again.
 fn kept_after(alloc: Global, input: &[u8], room: usize) -> Result<[u32; 2], Fail> {
     let mut project = failing(alloc, 99)?;
-    let mut reader = input;
-    match run(alloc, &mut project, &mut reader, &mut Narrow::of(room), 2) {
+    let (mut reader, mut writer) = (Input::of(input), Output::of(alloc, room));
+    match run(alloc, &mut project, &mut reader, &mut writer, 2) {
         Err(EditorError::WriterFailed) => {}
         _ => return Err(Fail::from("the run didn't end by the writer")),
     }

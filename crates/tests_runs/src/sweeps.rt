@@ -2,6 +2,7 @@
 //! stops.
 
 use crate::expect::same;
+use crate::streams::{Input, Output};
 use map_commands::{apply, parse};
 use map_tables::Maps;
 use run_edit::run;
@@ -313,10 +314,9 @@ const FAILED: &str = "0 0 0 0 2 2 2 2 7 7 7 7 8 8 8 8";
 // What a run over a disk writes whose k-th call fails.
 fn told(alloc: Global, lines: &[u8], k: u64, part: u32) -> Result<Vec<u8>, Fail> {
     let mut project = failing(alloc, k, part)?;
-    let mut out = Vec::new(alloc);
-    let mut reader = lines;
+    let (mut reader, mut out) = (Input::of(lines), Output::new(alloc));
     match run(alloc, &mut project, &mut reader, &mut out, 2) {
-        Ok(8) => Ok(out),
+        Ok(8) => Ok(out.written()?),
         _ => Err(Fail::from("the run didn't answer eight lines")),
     }
 }
