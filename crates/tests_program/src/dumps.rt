@@ -2,7 +2,6 @@
 
 use crate::calls::{called, performed};
 use crate::wads::{START_AT, cut_wad, wad_of};
-use cli_words::{RequestError, request};
 use std::fs;
 use std::test::Fail;
 use tests_rows::{expect_text, part, script_meant};
@@ -81,15 +80,4 @@ fn dumps_levels_and_maps(rt: HostRuntime) -> Result<(), Fail> {
         expect_call(&rt, row)?;
     }
     Ok(())
-}
-
-// `--salvage` takes no names and no `--exact`.
-#[test]
-fn takes_no_names_beside_salvage(rt: HostRuntime) {
-    let named = ["leveled", "dump", "--salvage", "dumps.lv", "MAP01"];
-    let asked = request(rt.alloc(), &named);
-    assert!(rt; matches!(asked, Err(RequestError::WholeAlone)));
-    let exact = ["leveled", "dump", "--salvage", "--exact", "dumps.lv"];
-    let asked = request(rt.alloc(), &exact);
-    assert!(rt; matches!(asked, Err(RequestError::WholeAlone)));
 }

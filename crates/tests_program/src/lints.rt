@@ -1,7 +1,7 @@
 //! What `lint` prints for the maps of a project.
 
+use crate::asked::asked;
 use crate::calls::{called, expect_calls, performed};
-use cli_words::{RequestError, request};
 use std::fs;
 use std::test::Fail;
 use tests_rows::{expect_scripts, expect_text};
@@ -118,25 +118,24 @@ const RULES: &str = "\
 
 const NO_RULES: &str = ",CHECK,no-map,line,crossed,no-exit ,findings";
 
-// The word that `lint` is refused for, if it is given the option with the word, or none.
-fn refused_word(rt: &HostRuntime, option: &str, word: &str) -> Result<String, Fail> {
-    let words = ["leveled", "lint", "f", option, word];
-    match request(rt.alloc(), &words) {
-        Err(RequestError::NotARule(word)) => Ok(word),
-        Ok(_) => Ok(format!(in rt.alloc(); "none")?),
-        Err(_) => Err(Fail::from("refused for another cause")),
-    }
+// What `lint` asks for with this option and this word.
+fn asked_with(rt: &HostRuntime, option: &str, word: &str) -> Result<String, Fail> {
+    asked(rt.alloc(), &["leveled", "lint", "f", option, word])
 }
 
 #[test]
 fn takes_the_words_of_rules_alone(rt: HostRuntime) -> Result<(), Fail> {
     for word in RULES.split(' ') {
-        let found = refused_word(&rt, "--only", word)?;
-        expect_text(word, found.as_str(), "none")?;
+        let found = asked_with(&rt, "--only", word)?;
+        expect_text(word, found.as_str(), "another request")?;
     }
     for word in NO_RULES.split(',') {
-        let found = refused_word(&rt, "--except", word)?;
-        expect_text(word, found.as_str(), word)?;
+        let found = asked_with(&rt, "--except", word)?;
+        expect_text(
+            word,
+            found.as_str().strip_prefix("no rule ").unwrap_or("none"),
+            word,
+        )?;
     }
     Ok(())
 }

@@ -1,12 +1,12 @@
 //! What `picture` draws for the maps of a project.
 
+use crate::asked::asked;
 use crate::calls::{called, performed};
-use cli_words::{Request, RequestError, request};
 use map_picture::STYLE;
 use std::alloc::Global;
 use std::fs;
 use std::test::Fail;
-use tests_rows::{expect_scripts, expect_text, part, said};
+use tests_rows::{expect_scripts, expect_text, part};
 
 // A map with one vertex, and an empty one, which is current.
 const LINES: &[u8] = b"vertex 0 0\nmap E1M1\n";
@@ -142,35 +142,29 @@ const NO_BOXES: &str = "\
     0;0,0,64;0,0,64,64,;0,0,64,64,64;0,0,64,;0,,64,64;0, 0,64,64;0 0 64 64;0,0,x,64;0,0,64,32768;\
     0,-32769,64,64;0,0,0,64;0,64,64,64;0,0,0,0";
 
-// The edges of the box that the words ask for.
-fn asked_box(alloc: Global, words: &[&str]) -> Result<String, Fail> {
-    match request(alloc, words) {
-        Ok(Request::Picture { crop, .. }) => {
-            let edges = crop.map(|found| [found.top, found.bottom, found.left, found.right]);
-            said(alloc, &edges)
-        }
-        _ => Err(Fail::from("no picture is asked for")),
-    }
-}
-
-// The text for which the words are refused, as one that writes no box.
-fn refused_box(alloc: Global, text: &str) -> Result<String, Fail> {
-    match request(alloc, &["leveled", "picture", "f", "--crop", text]) {
-        Err(RequestError::NotABox(text)) => Ok(text),
-        _ => Err(Fail::from("not refused as no box")),
-    }
-}
-
 #[test]
 fn reads_boxes(rt: HostRuntime) -> Result<(), Fail> {
     expect_scripts(rt.alloc(), BOXES, |alloc, word| {
-        asked_box(alloc, &["leveled", "picture", "f", word])
+        asked(alloc, &["leveled", "picture", "f", word])
     })?;
-    let none = asked_box(rt.alloc(), &["leveled", "picture", "f"])?;
-    expect_text("no --crop", none.as_str(), "None")?;
+    let none = asked(rt.alloc(), &["leveled", "picture", "f"])?;
+    expect_text("no --crop", none.as_str(), "None")
+}
+
+// The text for which a picture is refused, as one that writes no box.
+fn refused_box(alloc: Global, text: &str) -> Result<(), Fail> {
+    let found = asked(alloc, &["leveled", "picture", "f", "--crop", text])?;
+    expect_text(
+        text,
+        found.as_str().strip_prefix("no box ").unwrap_or(""),
+        text,
+    )
+}
+
+#[test]
+fn refuses_what_writes_no_box(rt: HostRuntime) -> Result<(), Fail> {
     for text in NO_BOXES.split(';') {
-        let found = refused_box(rt.alloc(), text)?;
-        expect_text(text, found.as_str(), text)?;
+        refused_box(rt.alloc(), text)?;
     }
     Ok(())
 }

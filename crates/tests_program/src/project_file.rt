@@ -6,7 +6,7 @@ use std::fs;
 use std::test::Fail;
 use store_disk::{Disk, FileDisk};
 use tests_rows::{expect_text, script_halves};
-use tests_runs::streams::Output;
+use tests_runs::streams::{Input, Output};
 
 // Calls over a file, which isn't there at first.
 const FILE_ROWS: &str = "\
@@ -67,7 +67,8 @@ fn makes_a_file_that_it_could_not_tell_of(rt: HostRuntime) -> Result<(), Fail> {
     let path = "leveled_project_run_untold";
     let _ = fs::remove_file(&rt, path);
     let words = ["leveled", "create", path];
-    let (found, faults) = status_of(&rt, &words, b"", &mut Output::of(rt.alloc(), 3))?;
+    let mut narrow = Output::of(rt.alloc(), 3);
+    let (found, faults) = status_of(&rt, &words, &mut Input::of(b""), &mut narrow);
     let said = b"leveled: 38 WriterFailed\n".as_slice();
     same(&rt, &(found, faults.as_slice()), &(1, said));
     let (found, _, _) = performed(&rt, "edit leveled_project_run_untold", b"count")?;

@@ -1,7 +1,6 @@
 //! `scratch`: its status, its output, and what it reports if a reader or a writer fails.
 
-use cli_program::perform;
-use cli_words::request;
+use crate::calls::status_of;
 use std::test::Fail;
 use tests_runs::streams::{Input, Output};
 
@@ -16,11 +15,7 @@ fn scratch(
     writer: &mut Output,
     said: &[u8],
 ) -> Result<u8, Fail> {
-    let mut faults = Vec::new(rt.alloc());
-    let status = match request(rt.alloc(), &["leveled", "scratch"]) {
-        Ok(asked) => perform(rt, &asked, reader, writer, &mut faults),
-        Err(_) => return Err(Fail::from("no request")),
-    };
+    let (status, faults) = status_of(rt, &["leveled", "scratch"], reader, writer);
     if faults.as_slice() == said {
         Ok(status)
     } else {
