@@ -5,8 +5,8 @@ use std::alloc::Global;
 use std::test::Fail;
 use tests_rows::said;
 
-// The text of a request, or of why there is none. It says of a picture the upper, lower, left and right edge of its box,
-// and of clap's answer the status and the text.
+// The text of a request, or of why there is none. It says of a picture the upper, lower, left and right edge of its
+// box, and of clap's answer the status and the text.
 fn told(alloc: Global, asked: &Result<Request, RequestError>) -> Result<String, Fail> {
     match asked {
         Ok(Request::Scratch) => Ok(format!(in alloc; "scratch")?),

@@ -21,8 +21,8 @@ fn status_in(
     }
 }
 
-/// Calls the program with these arguments, this input and this output: its status, and its standard error. The status is
-/// 255 if the arguments are no request.
+/// Calls the program with these arguments, this input and this output: its status, and its standard error. The status
+/// is 255 if the arguments are no request.
 pub fn status_of(
     rt: &HostRuntime,
     words: &[&str],
