@@ -30,25 +30,30 @@ const WORDS: &str = "\
     --help~0 Usage: leveled <COMMAND>^\
     --version~0 leveled 1.0.0";
 
-// Clap answers these words with a status and a text that has this part.
-fn expect_answer(alloc: Global, words: &[&str], row: &str, wanted: &str) -> Result<(), Fail> {
-    let found = asked(alloc, words)?;
+// Clap's answer has the status and a text with the part that are wanted.
+fn expect_answer(row: &str, found: &str, wanted: &str) -> Result<(), Fail> {
     let (status, part) = wanted.split_once(' ').unwrap_or((wanted, ""));
-    let (found_status, text) = found.as_str().split_once(' ').unwrap_or(("", ""));
+    let (found_status, text) = found.split_once(' ').unwrap_or((found, ""));
     if found_status == status && text.contains(part) {
         return Ok(());
     }
-    expect_text(row, found.as_str(), wanted)
+    expect_text(row, found, wanted)
+}
+
+// Clap answers the words of a row as it says.
+fn expect_row(alloc: Global, row: &str) -> Result<(), Fail> {
+    let (words, wanted) = script_halves(row);
+    let found = asked(alloc, &split(alloc, words)?)?;
+    expect_answer(row, found.as_str(), wanted)
 }
 
 #[test]
 fn reads_words(rt: HostRuntime) -> Result<(), Fail> {
     for row in WORDS.split('^') {
-        let (words, wanted) = script_halves(row);
-        expect_answer(rt.alloc(), &split(rt.alloc(), words)?, row, wanted)?;
+        expect_row(rt.alloc(), row)?;
     }
-    let wanted = "2 requires a subcommand";
-    expect_answer(rt.alloc(), &["leveled"], "no words", wanted)
+    let found = asked(rt.alloc(), &["leveled"])?;
+    expect_answer("no words", found.as_str(), "2 requires a subcommand")
 }
 
 // Options of `create`, and what they ask for, or the status if clap refuses them.
@@ -67,13 +72,10 @@ const LENGTHS: &str = "\
 fn created_with(alloc: Global, option: &str) -> Result<String, Fail> {
     let words = format!(in alloc; "create f {option}")?;
     let found = asked(alloc, &split(alloc, words.as_str())?)?;
-    let status = found.as_str().split(' ').next().unwrap_or("");
-    let told = if status == "2" {
-        status
-    } else {
-        found.as_str()
-    };
-    Ok(format!(in alloc; "{told}")?)
+    if found.as_str().starts_with("2 ") {
+        return Ok(format!(in alloc; "2")?);
+    }
+    Ok(found)
 }
 
 #[test]
