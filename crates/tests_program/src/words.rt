@@ -3,7 +3,7 @@
 use crate::asked::{asked, split};
 use std::alloc::Global;
 use std::test::Fail;
-use tests_rows::{expect_scripts, expect_text, script_halves};
+use tests_rows::{expect_scripts, expect_text, part, script_halves};
 
 // Arguments, and what they ask for. `--salvage` takes no names and no `--exact`.
 const REQUESTS: &str = "\
@@ -32,9 +32,8 @@ const WORDS: &str = "\
 
 // Clap's answer has the status and a text with the part that are wanted.
 fn expect_answer(row: &str, found: &str, wanted: &str) -> Result<(), Fail> {
-    let (status, part) = wanted.split_once(' ').unwrap_or((wanted, ""));
-    let (found_status, text) = found.split_once(' ').unwrap_or((found, ""));
-    if found_status == status && text.contains(part) {
+    let (mut left, mut text) = (wanted, found);
+    if part(&mut text, ' ') == part(&mut left, ' ') && text.contains(left) {
         return Ok(());
     }
     expect_text(row, found, wanted)
