@@ -13,9 +13,9 @@ use Rattle.lump_records.specs.Drawing.{IsBetween}
 use Rattle.lump_records.specs.Names.{IsNamed, is_digit, is_marker, is_name, is_name_byte, is_nonzero_digit, name_text}
 use Rattle.lump_records.specs.Sides.{no_side}
 use Rattle.map_commands.specs.Spelling.{left_word}
-use Rattle.map_commands.specs.Words.{is_natural, is_numeral, is_printable, is_word}
+use Rattle.map_words.specs.Words.{is_natural, is_numeral, is_printable, is_word}
 use Rattle.map_commands.specs.Places.{Place, Number, NumberOrNone, Named, prior_fault, place_fault, places_fault}
-use Rattle.map_commands.proofs.Numerals.{IsPlain, both, between, decimal-plain, digits-same, value-back}
+use Rattle.map_words.proofs.NumeralWords.{IsPlain, both, decimal-plain, digits-same, tells-le, value-back}
 use Rattle.map_commands.proofs.Padding.{marker-bytes, name-range}
 use Rattle.map_commands.proofs.Readings.{number-alone}
 use Rattle.map_commands.proofs.Wordings.{all-of, both-back}
@@ -77,12 +77,6 @@ all-read = record { none = refl }
 -- one place more, with nothing wrong
 pub next : (p : Place) (ps : List Place) (w : List ℕ) (ws : List (List ℕ)) → Fits p w → AllFit ps ws → AllFit (p ∷ ps) (w ∷ ws)
 next p ps w ws e f = record { none = λ i. prior_fault (e.none i) (f.none i) }
-
-tells-le : (a b : ℤ) → a ≤ℤ b → int_le a b ≡ true
-tells-le a b h = grind (arith, ints)
-
-pub fits-between : (low high z : ℤ) → FitsSigned w16 low → FitsSigned w16 high → IsBetween low high z → FitsSigned w16 z
-fits-between low high z f g h = between low z high f g (tells-le low z h.at_least) (tells-le z high h.at_most)
 
 number-fault : (low high z : ℤ) → FitsSigned w16 z → IsBetween low high z → place_fault (Number low high) (signed_decimal z) ≡ None
 number-fault low high z f h =

@@ -25,7 +25,7 @@ use Rattle.map_commands.specs.Rooms.{corners, room_sector, room_sides, walls}
 use Rattle.map_commands.specs.Spelling.{kind_of}
 use Rattle.map_commands.specs.Splits.{cut_off, cut_short, line_or_some}
 use Rattle.map_commands.specs.Step.{InRange, after, dropped_of, faults, growth_of, need_of}
-use Rattle.map_commands.specs.Words.{parts}
+use Rattle.map_words.specs.Words.{parts}
 use Rattle.map_commands.proofs.Accepted.{all-read, item-ok, marker-ok, next}
 use Rattle.map_commands.proofs.Counts.{Counted, Counts, add_each, fullness_by, name_each, set_each}
 use Rattle.map_commands.proofs.LowFaults.{IsLow, drop_low, places_low, room_low}

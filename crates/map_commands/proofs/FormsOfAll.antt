@@ -5,7 +5,7 @@ use Rattle.map_tables.specs.declared.edit.Edit.TheVariants.{Add, Set, Drop}
 use Rattle.map_tables.specs.declared.edit.Item.TheVariants as item
 use Rattle.map_commands.specs.ProjectCommands.{project_words_of}
 use Rattle.map_commands.specs.ProjectLaws.{CommandsHaveForms, begins_alike}
-use Rattle.map_commands.specs.Words.{parts}
+use Rattle.map_words.specs.Words.{parts}
 use Rattle.map_commands.specs.declared.command.Command.TheVariants.{Name, Edit, Room, Split}
 use Rattle.map_commands.specs.declared.grammar.TheConstants.{FORMS}
 use Rattle.map_commands.specs.declared.project.command.ProjectCommand.{ProjectCommand}

@@ -7,10 +7,9 @@ pub mod FormsOfAll
 pub mod Lines
 pub mod LowFaults
 pub mod NameFronts
+pub mod NumberFaults
 pub mod NumbersBack
-pub mod Numerals
 pub mod Padding
-pub mod Parts
 pub mod ProjectOutcomes
 pub mod ProjectSteps
 pub mod ProjectWords

@@ -2,8 +2,8 @@
 use Rattle.std.proofs.Common.{◌≡◌, ℕ, Bool, true, false, cond, List, [], ◌∷◌, refl, sym, ◌∙◌, ap, arith, nat_eq, length, ◌<◌}
 use Rattle.std.specs.List.{join_with_byte}
 use Rattle.std.proofs.lemmas.Bool.{eqb-true}
-use Rattle.map_commands.specs.Words.{parts, onto_first}
-use Rattle.map_commands.proofs.Parts.{parts-some}
+use Rattle.map_words.specs.Words.{parts, onto_first}
+use Rattle.map_words.proofs.LineParts.{parts-some}
 
 join-onto : (b : ℕ) (ws : List (List ℕ)) → join_with_byte 32 (onto_first b ws) ≡ b ∷ join_with_byte 32 ws
 join-onto b [] = refl

@@ -6,7 +6,7 @@ use Rattle.map_tables.specs.declared.kind.Kind.{Kind}
 use Rattle.map_commands.specs.Places.{Place, Number, NumberOrNone, Named, fault_at, prior_fault, has_form, is_form_fault, place_fault, places_fault, range_fault, room_places}
 use Rattle.map_commands.specs.Rooms.{flat_fault, or_else, room_fault}
 use Rattle.map_commands.specs.Spelling.{drop_fault, kind_fault, kind_of}
-use Rattle.map_commands.specs.Words.{is_numeral, numeral_value}
+use Rattle.map_words.specs.Words.{is_numeral, numeral_value}
 
 -- no fault, or one of at most 15
 abbrev pub IsLow : Option ℕ → Type 0

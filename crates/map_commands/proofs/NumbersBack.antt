@@ -4,9 +4,9 @@ use Rattle.std.specs.Prelude.{◌||◌, IsTrue, bytes_eq, codes, decimal, nat_le
 use Rattle.std.proofs.lemmas.Bool.{eqb-true, leb-true}
 use Rattle.lump_records.specs.Sides.{no_side}
 use Rattle.map_commands.specs.Spelling.{left_word}
-use Rattle.map_commands.specs.Words.{numeral_value}
+use Rattle.map_words.specs.Words.{numeral_value}
 use Rattle.map_commands.proofs.Accepted.{no-dash}
-use Rattle.map_commands.proofs.Numerals.{decimal-plain, value-back}
+use Rattle.map_words.proofs.NumeralWords.{decimal-plain, value-back}
 use Rattle.map_commands.proofs.Wordings.{IsText, decimal-text}
 
 abbrev pub natural_of : List ℕ → ℕ

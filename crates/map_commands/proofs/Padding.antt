@@ -9,8 +9,8 @@ use Rattle.std.proofs.lemmas.List.Sums.{take_while-cons}
 use Rattle.std.proofs.lemmas.Bool.{both_ways, eqb-true, le-leb, leb-true, lt-ltb, ne_eqb, or_left, or_right}
 use Rattle.lump_records.specs.declared.records.Name8.{Name8}
 use Rattle.lump_records.specs.Names.{IsNamed, is_digit, is_marker, is_name, is_name_byte, is_nonzero_digit, name_of, name_text}
-use Rattle.map_commands.specs.Words.{is_printable, is_word}
-use Rattle.map_commands.proofs.Numerals.{both}
+use Rattle.map_words.specs.Words.{is_printable, is_word}
+use Rattle.map_words.proofs.NumeralWords.{both}
 
 abbrev pub is_set : ℕ → Bool
 is_set b = not (nat_eq b 0)

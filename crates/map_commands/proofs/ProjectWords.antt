@@ -17,7 +17,7 @@ use Rattle.map_commands.specs.Grammar as of_one_map
 use Rattle.map_commands.specs.Places.{Named, places_fault}
 use Rattle.map_commands.specs.ProjectCommands.{InProjectRange, map_word, project_spelling, project_words_of}
 use Rattle.map_commands.specs.ProjectGrammar.{project_command_fault, fault_by_head, project_fault_of, map_head_of}
-use Rattle.map_commands.specs.Words.{parts}
+use Rattle.map_words.specs.Words.{parts}
 use Rattle.map_commands.proofs.Accepted.{all-read, marker-ok, next}
 use Rattle.map_commands.proofs.Commands as proved_of_one_map
 use Rattle.map_commands.proofs.Lines.{join-parts}

@@ -2,7 +2,7 @@
 use Rattle.std.proofs.Common.{◌≡◌, ℕ, Bool, true, false, List, [], ◌∷◌, refl, sym, ◌∙◌, ap, arith, Option, Some, None, nat_eq, cond, length, ◌<◌}
 use Rattle.std.specs.Prelude.{◌||◌, ℤ, bytes_eq, codes}
 use Rattle.map_commands.specs.Places.{Place, Number, NumberOrNone, fault_at, place_fault, places_fault, prior_fault}
-use Rattle.map_commands.specs.Words.{is_numeral}
+use Rattle.map_words.specs.Words.{is_numeral}
 use Rattle.map_commands.specs.Reading.{Reading, Reads, IsDone, fault_with}
 
 first-end : (x : Option ℕ) → prior_fault x None ≡ x

@@ -12,10 +12,10 @@ use Rattle.map_commands.specs.Step.{IsPlan}
 use Rattle.map_commands.specs.Places.{line_places, room_places, sector_places, side_places, thing_places, vertex_places}
 use Rattle.map_commands.specs.Spelling.{line_words, sector_words, side_words, thing_words, vertex_words}
 use Rattle.map_commands.specs.Rooms.{room_words}
-use Rattle.map_commands.specs.Words.{numeral_value}
+use Rattle.map_words.specs.Words.{numeral_value}
 use Rattle.lump_records.proofs.DrawingLemmas.{drawable_x, drawable_y}
 use Rattle.map_commands.proofs.Accepted.{AllFit, all-read, item-ok, left-ok, name-ok, next, number-ok}
-use Rattle.map_commands.proofs.Numerals.{value-back}
+use Rattle.map_words.proofs.NumeralWords.{value-back}
 use Rattle.map_commands.proofs.Wordings.{AreTexts, decimal-text, name-is-text, signed-text}
 use Rattle.map_commands.proofs.SixteenBits.{coordinate-fits, short-fits, code-fits, light-fits, angle-fits}
 use Rattle.map_commands.proofs.NumbersBack.{natural_of, natural-back, left_of, left-back, left-text}

@@ -10,7 +10,7 @@ use Rattle.map_tables.specs.Ranges.{last_of}
 use Rattle.map_commands.specs.Rooms.{room_fault, or_else, flat_fault, room_words}
 use Rattle.map_commands.specs.Spelling.{kind_of, kind_fault, drop_fault}
 use Rattle.map_commands.specs.Places.{Number, places_fault, room_places}
-use Rattle.map_commands.proofs.Numerals.{value-back}
+use Rattle.map_words.proofs.NumeralWords.{value-back}
 use Rattle.map_tables.specs.declared.kind.Kind.{Kind}
 
 fits : (z : ℤ) → IsCoordinate z → FitsSigned w16 z

@@ -3,7 +3,7 @@ use Rattle.std.proofs.Common.{ℤ, pos, negsuc, FitsSigned, lit<}
 use Rattle.std.specs.Int.{w16}
 use Rattle.lump_records.specs.Drawing.{IsBetween, IsCoordinate}
 use Rattle.map_tables.specs.Ranges.{IsCode, IsShort}
-use Rattle.map_commands.proofs.Accepted.{fits-between}
+use Rattle.map_words.proofs.NumeralWords.{fits-between}
 
 pub coordinate-fits : (z : ℤ) → IsCoordinate z → FitsSigned w16 z
 coordinate-fits z h = fits-between (negsuc 16383) (pos 16383) z (record { sfits = lit< tt }) (record { sfits = lit< tt }) h

@@ -14,10 +14,10 @@ use Rattle.map_tables.specs.declared.kind.Kind.TheVariants as kind
 use Rattle.map_tables.specs.Ranges.{last_of}
 use Rattle.lump_records.specs.Names.{IsNamed, is_marker, is_name, is_name_byte, name_text}
 use Rattle.map_commands.specs.Spelling.{kind_word}
-use Rattle.map_commands.specs.Words.{onto_first, parts}
-use Rattle.map_commands.proofs.Numerals.{both, decimal-digits}
+use Rattle.map_words.specs.Words.{onto_first, parts}
+use Rattle.map_words.proofs.NumeralWords.{both, decimal-digits}
 use Rattle.map_commands.proofs.Padding.{apart, marker-bytes}
-use Rattle.map_commands.proofs.Parts.{parts-other}
+use Rattle.map_words.proofs.LineParts.{parts-other}
 
 -- a byte that is no space
 abbrev pub is_inside : ℕ → Bool

@@ -10,7 +10,7 @@ use Rattle.map_commands.specs.Errors.{code_of}
 use Rattle.map_commands.specs.Places.{Named, places_fault, item, sector_item, vertex_places, sector_places, side_places, line_places, thing_places}
 use Rattle.map_commands.specs.Rooms.{room_fault, room_words}
 use Rattle.map_commands.specs.Spelling.{add_head, drop_fault, item_words, kind_word, line_kinds, set_head, side_kinds, vertex_words}
-pub use Rattle.map_commands.specs.Words.{parts}
+pub use Rattle.map_words.specs.Words.{parts}
 use Rattle.map_commands.specs.declared.command.Command.{Command}
 use Rattle.map_commands.specs.declared.command.Command.TheVariants.{Name, Edit, Room, Split}
 use Rattle.map_commands.specs.declared.error.CommandError.TheVariants.{NotACommand}

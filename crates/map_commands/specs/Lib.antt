@@ -13,4 +13,3 @@ pub mod Spelling
 pub mod Splits
 pub mod Step
 pub mod Views
-pub mod Words

@@ -4,7 +4,7 @@ use Rattle.std.specs.Prelude.{ℕ, Bool, false, ◌&&◌, ◌||◌, ◌==◌, if
 use Rattle.lump_records.specs.Names.{is_name}
 use Rattle.map_commands.specs.declared.error.CommandError.TheVariants.{NotACommand, OutOfRange, BadName}
 use Rattle.map_commands.specs.Errors.{code_of}
-use Rattle.map_commands.specs.Words.{is_numeral, is_word, numeral_value}
+use Rattle.map_words.specs.Words.{is_numeral, is_word, numeral_value}
 
 -- what may stand at a place of a line: a number from a least one to a greatest one, such a number
 -- or `-`, or a name

@@ -7,7 +7,7 @@ use Rattle.map_commands.specs.Errors.{code_of}
 use Rattle.map_commands.specs.Grammar as of_one_map
 use Rattle.map_commands.specs.Places.{Named, places_fault}
 use Rattle.map_commands.specs.ProjectCommands.{map_word}
-use Rattle.map_commands.specs.Words.{parts}
+use Rattle.map_words.specs.Words.{parts}
 use Rattle.map_commands.specs.declared.project.command.MapHead.{MapHead}
 use Rattle.map_commands.specs.declared.project.command.MapHead.TheVariants as head
 

@@ -5,7 +5,7 @@ use Rattle.map_commands.specs.Grammar.{head_word, heads}
 use Rattle.map_commands.specs.ProjectCommands.{InProjectRange, map_word, project_spelling, project_words_of}
 use Rattle.map_commands.specs.ProjectGrammar.{map_heads, project_fault_of}
 use Rattle.map_commands.specs.ProjectLines.{EndsLine, Leads}
-use Rattle.map_commands.specs.Words.{parts}
+use Rattle.map_words.specs.Words.{parts}
 use Rattle.map_commands.specs.declared.grammar.Head.TheVariants.{Name}
 use Rattle.map_commands.specs.declared.grammar.TheConstants.{DEEDS, FORMS}
 use Rattle.map_commands.specs.declared.project.command.ProjectCommand.{ProjectCommand}

@@ -11,7 +11,7 @@ use Rattle.lump_records.specs.Sides.{no_side}
 use Rattle.map_commands.specs.declared.error.CommandError.TheVariants.{OutOfRange, PlaceTaken, TableFull}
 use Rattle.map_commands.specs.Errors.{code_of}
 use Rattle.map_commands.specs.Places.{places_fault, room_places}
-use Rattle.map_commands.specs.Words.{numeral_value}
+use Rattle.map_words.specs.Words.{numeral_value}
 use Rattle.map_tables.specs.declared.edit.Need.{Need}
 use Rattle.map_tables.specs.Tables.{Tables}
 use Rattle.map_tables.specs.Faults.{is_taken, lacks_room, lacks_sector_room}

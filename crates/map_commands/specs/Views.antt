@@ -1,7 +1,7 @@
 -- What a contract sees of a line that is being read, and of one that is being written.
 use Rattle.std.specs.Prelude.{◌≡◌, ℕ, List, ◌++◌, option_copied, string_bytes}
 use Rattle.map_commands.specs.Errors.{code_in}
-use Rattle.map_commands.specs.Words.{parts_behind}
+use Rattle.map_words.specs.Words.{parts_behind}
 use Rattle.map_commands.specs.Reading.{Reading}
 use Rattle.map_commands.specs.declared.unread.UnreadWords.{UnreadWords}
 use Rattle.map_commands.specs.declared.text.Text.{Text}

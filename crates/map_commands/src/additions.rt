@@ -6,15 +6,15 @@ ghost use Rattle.lump_records.specs.Names.{IsNamed, is_name, is_name_byte, name_
 ghost use Rattle.lump_records.specs.Sides.{no_side};
 ghost use Rattle.map_tables.specs.Ranges.{IsLine, IsSector, IsShort, IsSide, IsThing, IsVertex};
 ghost use Rattle.map_commands.specs.Spelling.{left_word, line_words, sector_words, side_words, thing_words, vertex_words};
-ghost use Rattle.map_commands.specs.Words.{parts, parts_behind};
+ghost use Rattle.map_words.specs.Words.{parts, parts_behind};
 
 use crate::forms::{GREATEST_ANGLE, GREATEST_FLAGS, GREATEST_LIGHT};
 use crate::kinds::{LAST_ITEM, LAST_SECTOR};
 use crate::names::NO_TEXTURE;
-use crate::words::{number_before, short_natural};
 use lump_records::{
     GREATEST_COORDINATE, LEAST_COORDINATE, Line, NO_SIDE, Name8, Sector, Side, Thing, Vertex,
 };
+use map_words::{number_before, short_natural};
 
 // The number from 0 up to the last one in front of a text, and what stands behind the space after it, if there is one.
 #[inline(always)]

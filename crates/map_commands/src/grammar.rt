@@ -7,7 +7,7 @@ ghost use Rattle.map_commands.specs.Errors.{TellsFault};
 ghost use Rattle.map_commands.specs.Grammar.{command_fault, fault_behind, head_answer, head_for, head_layout, head_numbers, head_of, head_puts_vertex, head_word, spelling, words_behind, words_of};
 ghost use Rattle.map_commands.specs.Spelling.{add_head, set_head};
 ghost use Rattle.map_commands.specs.Views.{Adds, reading, written};
-ghost use Rattle.map_commands.specs.Words.{parts_behind};
+ghost use Rattle.map_words.specs.Words.{parts_behind};
 
 use crate::command::{Command, LineSplit};
 use crate::deed::Deed;

@@ -3,6 +3,7 @@
 #![tactic(auto)]
 
 mod additions;
+mod bounded;
 mod command;
 mod deed;
 mod edits;
@@ -19,8 +20,8 @@ mod room;
 mod split;
 mod text;
 mod unread;
-mod words;
 
+pub use bounded::number_in;
 pub use command::{Command, LineSplit, RoomPlan, can_do};
 pub use deed::Deed;
 pub use error::CommandError;
@@ -36,4 +37,3 @@ pub use project::{
     have_a_form_each, lead_to_one_project, need_of, parse, print, ready, spell_one_command,
 };
 pub use unread::UnreadWords;
-pub use words::{next_part, number_in};

@@ -6,8 +6,8 @@ ghost use Rattle.map_commands.specs.Places.{Named, place_fault};
 ghost use Rattle.lump_records.specs.Names.{IsNamed, is_marker, is_name, name_text};
 
 use crate::error::CommandError;
-use crate::words::has_word_form;
 use lump_records::{Name8, is_marker, is_name};
+use map_words::has_word_form;
 use std::str;
 
 /// `-`: no texture.

@@ -1,9 +1,10 @@
 //! The words of a line that are still to be read, and the leftmost fault so far.
+use crate::bounded::number_in;
 use crate::error::CommandError;
 use crate::kinds::LAST_ITEM;
 use crate::names::{FIRST_MAP, NO_TEXTURE, marker_in, name_in};
-use crate::words::{next_part, number_before, number_in};
 use lump_records::{NO_SIDE, Name8};
+use map_words::{next_part, number_before};
 
 /// The words of a line that are still to be read, and the fault so far: `NotACommand` if that was found anywhere,
 /// otherwise the leftmost fault.
@@ -22,7 +23,7 @@ impl<'a> UnreadWords<'a> {
     ghost use Rattle.map_commands.specs.Errors.{code_of};
     ghost use Rattle.map_commands.specs.Spelling.{left_word};
     ghost use Rattle.map_commands.specs.Places.{Named, Number, NumberOrNone, prior_fault};
-    ghost use Rattle.map_commands.specs.Words.{parts_behind};
+    ghost use Rattle.map_words.specs.Words.{parts_behind};
     ghost use Rattle.map_commands.specs.Reading.{Reads, IsDone, fault_with};
     ghost use Rattle.map_commands.specs.Views.{reading};
 

@@ -20,7 +20,7 @@ use Rattle.map_tables.specs.WellFormed.{WellFormed}
 use Rattle.map_commands.specs.Places.{Place, Number, NumberOrNone, Named, fault_at, prior_fault, has_form, is_form_fault, line_places, place_fault, places_fault, sector_places, side_places, thing_places, vertex_places}
 use Rattle.map_commands.specs.ProjectCommands.{project_spelling}
 use Rattle.map_commands.specs.Spelling.{line_words, sector_words, side_words, thing_words, vertex_words}
-use Rattle.map_commands.specs.Words.{is_natural, is_numeral, is_printable, is_word}
+use Rattle.map_words.specs.Words.{is_natural, is_numeral, is_printable, is_word}
 use Rattle.map_commands.specs.declared.command.Command.{Command}
 use Rattle.map_commands.specs.declared.command.Command.TheVariants.{Edit, Name}
 use Rattle.map_tables.specs.declared.edit.Edit.TheVariants as edit
@@ -28,7 +28,7 @@ use Rattle.map_tables.specs.declared.edit.Item.TheVariants as item
 use Rattle.map_commands.specs.declared.project.command.ProjectCommand.{ProjectCommand}
 use Rattle.map_commands.specs.declared.project.command.ProjectCommand.TheVariants.{Current, SelectMap}
 use Rattle.map_commands.proofs.Accepted.{marker-ok}
-use Rattle.map_commands.proofs.Numerals.{both}
+use Rattle.map_words.proofs.NumeralWords.{both}
 use Rattle.map_commands.proofs.Padding.{apart}
 use Rattle.map_commands.proofs.RecordWords.{line-ok, sector-ok, side-ok, thing-ok, vertex-ok}
 use Rattle.map_commands.proofs.Wordings.{all-of, both-back}

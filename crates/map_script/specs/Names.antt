@@ -7,7 +7,7 @@ use Rattle.map_tables.specs.declared.kind.Kind.{Kind}
 use Rattle.map_tables.specs.declared.kind.Kind.TheVariants as kind
 use Rattle.lump_records.specs.declared.records.Vertex.{Vertex}
 use Rattle.map_commands.specs.Spelling.{kind_of}
-use Rattle.map_commands.specs.Words.{is_numeral}
+use Rattle.map_words.specs.Words.{is_numeral}
 use Rattle.map_plane.specs.Found.{stands_at}
 use Rattle.map_plane.specs.Meeting.{is_at, is_on}
 use Rattle.map_plane.specs.Nearest.{sector_of_place}

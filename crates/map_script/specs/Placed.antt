@@ -10,7 +10,7 @@ use Rattle.map_commands.specs.declared.grammar.Head.{Head}
 use Rattle.map_commands.specs.declared.layout.Layout.{Layout}
 use Rattle.map_commands.specs.declared.layout.Layout.TheVariants.{Corners, Looking, Walls}
 use Rattle.map_commands.specs.Places.{angle, place_fault}
-use Rattle.map_commands.specs.Words.{numeral_value}
+use Rattle.map_words.specs.Words.{numeral_value}
 use Rattle.map_script.specs.Placings.{is_coordinate_word, place_of, placed_to, turned_angle}
 use Rattle.map_script.specs.Words.{text_words}
 use Rattle.map_script.specs.declared.error.DrawError.{DrawError}

@@ -5,7 +5,7 @@ use Rattle.std.specs.Option.{is_none}
 use Rattle.lump_records.specs.declared.limits.TheConstants.{GREATEST_COORDINATE, LEAST_COORDINATE}
 use Rattle.lump_records.specs.declared.records.Vertex.{Vertex}
 use Rattle.map_commands.specs.Places.{coordinate, place_fault}
-use Rattle.map_commands.specs.Words.{numeral_value}
+use Rattle.map_words.specs.Words.{numeral_value}
 use Rattle.map_script.specs.declared.placing.Facing.{Facing}
 use Rattle.map_script.specs.declared.placing.Facing.TheVariants.{East, North, West, South}
 use Rattle.map_script.specs.declared.placing.Placing.{Placing}

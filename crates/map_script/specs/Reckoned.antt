@@ -2,7 +2,7 @@
 use Rattle.std.specs.Prelude.{ℕ, Bool, false, ◌^◌, ◌==◌, nat_lt, if◌then◌else◌, List, [], ◌∷◌, ℤ, pos, negsuc, ◌+ℤ◌, ◌-ℤ◌, ◌*ℤ◌, neg_ℤ, Option, Some, None, Result, Ok, Err, int_div, int_rem}
 use Rattle.map_tables.specs.Tables.{Tables}
 use Rattle.map_tables.specs.declared.kind.Kind.{Kind}
-use Rattle.map_commands.specs.Words.{is_numeral}
+use Rattle.map_words.specs.Words.{is_numeral}
 use Rattle.map_script.specs.Names.{number_placed, value_of}
 use Rattle.map_script.specs.Placings.{coordinate_of, placed_vertex}
 use Rattle.map_script.specs.declared.error.DrawError.{DrawError}

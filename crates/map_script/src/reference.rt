@@ -2,7 +2,7 @@
 ghost use Rattle.std.specs.Prelude.{◌≡◌, ◌≤◌, ◌<◌, ◌+◌, ◌-◌, ◌*◌, ◌==◌, min, nat_le, if◌then◌else◌, ◌^◌, length, position, IfSome, option_copied};
 ghost use Rattle.std.specs.List.{list_all};
 ghost use Rattle.map_commands.specs.Spelling.{kind_of};
-ghost use Rattle.map_commands.specs.Words.{is_numeral};
+ghost use Rattle.map_words.specs.Words.{is_numeral};
 ghost use Rattle.map_script.specs.Known.{scope_of};
 ghost use Rattle.map_script.specs.Meant.{meant, meant_by, meant_in};
 ghost use Rattle.lump_records.specs.Names.{is_digit};

@@ -1,7 +1,7 @@
 -- The words of a change, one after the other.
 use Rattle.std.proofs.Common.{◌≡◌, ℕ, ◌+◌, ◌<◌, List, [], ◌∷◌, length, Option, Some, None, refl, arith, cond, pos}
 use Rattle.map_commands.specs.Places.{Number, place_fault, prior_fault}
-use Rattle.map_commands.specs.Words.{parts}
+use Rattle.map_words.specs.Words.{parts}
 use Rattle.map_tables.specs.Ranges.{last_of}
 use Rattle.map_tables.specs.declared.kind.Kind.{Kind}
 use Rattle.map_shapes.specs.Changes.{are_fields, field_text, fields_fault, values_fault, with_values}

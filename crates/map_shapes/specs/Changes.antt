@@ -6,7 +6,7 @@ use Rattle.map_commands.specs.Spelling.{kind_of}
 use Rattle.map_commands.specs.Places.{Number, place_fault, prior_fault}
 use Rattle.map_commands.specs.ProjectGrammar.{project_fault_of}
 use Rattle.map_commands.specs.Grammar.{head_word}
-use Rattle.map_commands.specs.Words.{parts}
+use Rattle.map_words.specs.Words.{parts}
 use Rattle.map_commands.specs.declared.error.CommandError.{CommandError}
 use Rattle.map_commands.specs.declared.error.CommandError.TheVariants.{NotACommand, NoVertex, NoSector, NoSide, NoLine, NoThing}
 use Rattle.map_commands.specs.declared.grammar.Head.{Head}

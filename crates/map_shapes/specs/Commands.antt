@@ -9,7 +9,7 @@ use Rattle.map_commands.specs.Grammar.{head_word}
 use Rattle.map_commands.specs.Spelling.{item_words}
 use Rattle.map_commands.specs.ProjectCommands.{project_spelling}
 use Rattle.map_commands.specs.ProjectGrammar.{project_fault_of}
-use Rattle.map_commands.specs.Words.{parts}
+use Rattle.map_words.specs.Words.{parts}
 use Rattle.map_commands.specs.declared.command.Command.{Command}
 use Rattle.map_commands.specs.declared.project.command.ProjectCommand.TheVariants.{Current}
 use Rattle.map_tables.specs.Outcomes.{least}

@@ -11,7 +11,7 @@ use Rattle.map_areas.specs.declared.pillar.Pillar.{Pillar}
 use Rattle.map_commands.specs.Errors.{code_of}
 use Rattle.map_commands.specs.Places.{Place, coordinate, flags, height, light, name, places_fault, sector_item}
 use Rattle.map_commands.specs.Spelling.{kind_word, vertex_words}
-use Rattle.map_commands.specs.Words.{parts}
+use Rattle.map_words.specs.Words.{parts}
 use Rattle.map_commands.specs.declared.error.CommandError.TheVariants.{NotACommand}
 use Rattle.map_tables.specs.Ranges.{IsNamed, IsSector, IsVertex, is_name}
 use Rattle.map_shapes.specs.Changes.{change_fault}

@@ -6,7 +6,7 @@ ghost use Rattle.map_commands.specs.ProjectGrammar.{project_fault_of};
 ghost use Rattle.map_commands.specs.Grammar.{head_word};
 ghost use Rattle.map_commands.specs.Spelling.{item_words};
 ghost use Rattle.map_commands.specs.Step.{InRange};
-ghost use Rattle.map_commands.specs.Words.{parts};
+ghost use Rattle.map_words.specs.Words.{parts};
 ghost use Rattle.map_commands.specs.declared.project.command.ProjectCommand.TheVariants.{Current};
 ghost use Rattle.map_tables.specs.Ranges.{IsItem};
 ghost use Rattle.map_shapes.specs.Changes.{item_at, missing};
@@ -16,8 +16,9 @@ ghost use Rattle.map_shapes.specs.Errors.{no_memory};
 use crate::error::ShapeError;
 use crate::fields::changed_line;
 use crate::shape::Change;
-use map_commands::{Command, CommandError, ProjectCommand, next_part, parse, print};
+use map_commands::{Command, CommandError, ProjectCommand, parse, print};
 use map_tables::{Edit, Item, Kind, Map};
+use map_words::next_part;
 use std::alloc::Global;
 
 // The item of a map with this number.

@@ -2,12 +2,13 @@
 ghost use Rattle.std.specs.Prelude.{◌≡◌, ◌<◌, ◌∷◌, ◌++◌, ◌==◌, length, position, IfOk, IfSome, MatchOption, None, Some, bytes_eq, option_copied};
 ghost use Rattle.std.specs.List.{list_any};
 ghost use Rattle.map_commands.specs.Grammar.{head_word};
-ghost use Rattle.map_commands.specs.Words.{parts, parts_behind};
+ghost use Rattle.map_words.specs.Words.{parts, parts_behind};
 ghost use Rattle.map_shapes.specs.Changes.{are_fields, changed_line, field_text, is_new_field, pair_of, sample_text, setting, value_if, value_in, with_values};
 ghost use Rattle.map_shapes.specs.Texts.{and_words};
 
-use map_commands::{Head, head_text, next_part};
+use map_commands::{Head, head_text};
 use map_tables::Kind;
+use map_words::next_part;
 use std::alloc::{AllocError, Global};
 
 // The first word of the command that changes an item.

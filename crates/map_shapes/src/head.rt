@@ -2,7 +2,7 @@
 ghost use Rattle.std.specs.Prelude.{◌≡◌, IfSome, bytes_eq};
 ghost use Rattle.map_shapes.specs.Shapes.{is_shape_line, shape_head_of, shape_word};
 
-use map_commands::next_part;
+use map_words::next_part;
 
 /// The first word of a shape, which decides what follows it.
 #[derive(Clone, Copy)]

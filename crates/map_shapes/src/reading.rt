@@ -5,7 +5,7 @@ ghost use Rattle.map_commands.specs.Places.{Number, Place, coordinate, place_fau
 ghost use Rattle.map_commands.specs.Spelling.{vertex_words};
 ghost use Rattle.map_commands.specs.Reading.{fault_with};
 ghost use Rattle.map_commands.specs.Views.{reading};
-ghost use Rattle.map_commands.specs.Words.{parts, parts_behind};
+ghost use Rattle.map_words.specs.Words.{parts, parts_behind};
 ghost use Rattle.map_tables.specs.Ranges.{IsVertex, last_of};
 ghost use Rattle.map_shapes.specs.Changes.{change_fault, fields_fault, values_fault};
 ghost use Rattle.map_shapes.specs.Doors.{IsDoor};
@@ -19,9 +19,10 @@ use crate::shape::{Change, Door, Shape};
 use lump_records::{GREATEST_COORDINATE, LEAST_COORDINATE, Name8, Sector, Vertex};
 use map_areas::{Area, Pillar};
 use map_commands::{
-    CommandError, LAST_SECTOR, UnreadWords, kind_in, last_number, next_part, number_in, parse,
+    CommandError, LAST_SECTOR, UnreadWords, kind_in, last_number, number_in, parse,
 };
 use map_tables::Kind;
+use map_words::next_part;
 use std::alloc::{AllocError, Global};
 
 // The length of the longest line that can be a shape, in bytes.

@@ -8,7 +8,7 @@ use Rattle.std.proofs.lemmas.List.{take_all, length-take-le}
 use Rattle.map_tables.specs.Projects.{ProjectMaps}
 use Rattle.map_commands.specs.ProjectGrammar.{project_command_fault, project_fault_of}
 use Rattle.map_commands.specs.ProjectLines.{Accepts, EndsLine, RefusesCommand}
-use Rattle.map_commands.specs.Words.{parts}
+use Rattle.map_words.specs.Words.{parts}
 use Rattle.map_commands.proofs.ProjectWords.{project_spelling-accepted}
 use Rattle.run_edit.specs.Answers.{AddsItems, RepliesInMemory}
 use Rattle.run_edit.specs.Queries.{IsAnswer, TakesMemory, query_of, queries}

@@ -5,7 +5,7 @@ ghost use Rattle.map_tables.specs.Projects.{body_len, project_of};
 ghost use Rattle.map_tables.specs.Ranges.{IsItem};
 ghost use Rattle.map_commands.specs.Grammar.{head_word};
 ghost use Rattle.map_commands.specs.Spelling.{add_head, item_words};
-ghost use Rattle.map_commands.specs.Words.{parts};
+ghost use Rattle.map_words.specs.Words.{parts};
 ghost use Rattle.map_commands.specs.Step.{InRange, need_of, after, faults, number_of};
 ghost use Rattle.map_commands.specs.ProjectCommands.{InProjectRange};
 ghost use Rattle.map_commands.specs.ProjectLines.{LeadsTo};

@@ -8,13 +8,13 @@ ghost use Rattle.map_commands.specs.ProjectCommands.{InProjectRange, map_word, p
 ghost use Rattle.map_commands.specs.ProjectGrammar.{project_fault_of, map_head_of};
 ghost use Rattle.map_commands.specs.declared.project.command.ProjectCommand.{ProjectCommand};
 ghost use Rattle.map_commands.specs.Views.{reading};
-ghost use Rattle.map_commands.specs.Words.{parts_behind};
+ghost use Rattle.map_words.specs.Words.{parts_behind};
 
 use crate::error::CommandError;
 use crate::grammar;
 use crate::project::command::{MapHead, ProjectCommand};
 use crate::unread::UnreadWords;
-use crate::words::next_part;
+use map_words::next_part;
 
 // The length of the longest line that can be a command, in bytes.
 const LONGEST_LINE: usize = 256;

@@ -1,4 +1,4 @@
-use Rattle.map_commands.proofs.Parts.{parts-at}
+use Rattle.map_words.proofs.LineParts.{parts-at}
 use Rattle.map_commands.proofs.NameFronts.{no-space-within}
 use Rattle.map_commands.proofs.additions.name_text_before.Goals as goal
 

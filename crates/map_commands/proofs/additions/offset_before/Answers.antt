@@ -1,6 +1,6 @@
 use Rattle.std.proofs.Common.{◌∷◌, ◌∙◌, ap, sym}
-use Rattle.map_commands.specs.Words.{parts}
-use Rattle.map_commands.proofs.Numerals.{zero-written}
+use Rattle.map_words.specs.Words.{parts}
+use Rattle.map_words.proofs.NumeralWords.{zero-written}
 use Rattle.map_commands.proofs.additions.offset_before.Goals as goal
 
 -- a 0 is written as it stands there

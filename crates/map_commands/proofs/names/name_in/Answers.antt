@@ -1,6 +1,6 @@
 use Rattle.std.proofs.Common.{◌≡◌, sym, ◌∙◌, true, rules}
 use Rattle.lump_records.specs.Names.{is_name}
-use Rattle.map_commands.specs.Words.{is_word}
+use Rattle.map_words.specs.Words.{is_word}
 use Rattle.map_commands.proofs.Padding.{found-name, name-word}
 use Rattle.map_commands.proofs.names.name_in.Goals as goal
 

@@ -2,7 +2,7 @@ use Rattle.std.proofs.Common.{◌≡◌, ◌∷◌, [], List, ℕ, sym, ◌∙�
 use Rattle.std.specs.Option.{option_copied}
 use Rattle.map_commands.proofs.Commands.{parts-spelling}
 use Rattle.map_commands.specs.Spelling.{item_words}
-use Rattle.map_commands.specs.Words.{parts, parts_behind}
+use Rattle.map_words.specs.Words.{parts, parts_behind}
 use Rattle.map_commands.specs.declared.command.Command.TheVariants.{Edit}
 use Rattle.map_tables.specs.declared.edit.Edit.TheVariants.{Add}
 use Rattle.map_shapes.proofs.Settings.{has_words}

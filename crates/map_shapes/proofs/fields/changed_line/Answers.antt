@@ -1,7 +1,7 @@
 use Rattle.std.proofs.Common.{◌≡◌, ◌∷◌, ◌++◌, List, ℕ, sym, ◌∙◌, ap, ap₂, rules}
 use Rattle.std.specs.Prelude.{decimal}
 use Rattle.map_commands.specs.Grammar.{head_word}
-use Rattle.map_commands.specs.Words.{parts}
+use Rattle.map_words.specs.Words.{parts}
 use Rattle.map_shapes.specs.Changes.{field_text, setting, with_values}
 use Rattle.map_shapes.specs.Texts.{and_words}
 use Rattle.map_shapes.proofs.Texts.{joined_words}

@@ -2,7 +2,7 @@ use Rattle.std.proofs.Common.{◌≡◌}
 use Rattle.std.specs.Prelude.{bytes_eq}
 use Rattle.std.specs.List.{list_any}
 use Rattle.std.specs.Option.{option_copied}
-use Rattle.map_commands.specs.Words.{parts, parts_behind}
+use Rattle.map_words.specs.Words.{parts, parts_behind}
 use Rattle.map_shapes.proofs.FieldWords.{len_left}
 use Rattle.map_shapes.proofs.fields.has_name.Given as goal
 

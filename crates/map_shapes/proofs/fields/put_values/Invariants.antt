@@ -1,6 +1,6 @@
 use Rattle.std.proofs.Common.{◌≡◌}
 use Rattle.std.specs.Option.{option_copied}
-use Rattle.map_commands.specs.Words.{parts, parts_behind}
+use Rattle.map_words.specs.Words.{parts, parts_behind}
 use Rattle.map_shapes.specs.Changes.{with_values}
 use Rattle.map_shapes.specs.Texts.{and_words}
 use Rattle.map_shapes.proofs.FieldWords.{len_left}

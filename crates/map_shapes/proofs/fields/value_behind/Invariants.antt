@@ -1,6 +1,6 @@
 use Rattle.std.proofs.Common.{◌≡◌}
 use Rattle.std.specs.Option.{option_copied}
-use Rattle.map_commands.specs.Words.{parts_behind}
+use Rattle.map_words.specs.Words.{parts_behind}
 use Rattle.map_shapes.specs.Changes.{value_in}
 use Rattle.map_shapes.proofs.FieldWords.{len_left}
 use Rattle.map_shapes.proofs.fields.value_behind.Given as goal

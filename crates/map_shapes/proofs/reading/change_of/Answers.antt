@@ -1,8 +1,8 @@
 use Rattle.std.proofs.Common.{◌≡◌, ◌⊎◌, inr, Bool, true, false, Option, None, Some, ℕ, List, cond, pos, sym, ◌∙◌, ap, ap₂}
-use Rattle.map_commands.proofs.Parts.{parts-some}
+use Rattle.map_words.proofs.LineParts.{parts-some}
 use Rattle.map_commands.specs.Errors.{code_in}
 use Rattle.map_commands.specs.Places.{Number, place_fault, prior_fault}
-use Rattle.map_commands.specs.Words.{parts}
+use Rattle.map_words.specs.Words.{parts}
 use Rattle.map_tables.specs.Ranges.{last_of}
 use Rattle.map_shapes.specs.Changes.{are_fields, field_text, values_fault}
 use Rattle.map_shapes.proofs.FieldWords.{fields_fault-some}

@@ -1,7 +1,7 @@
 use Rattle.std.proofs.Common.{◌≡◌, ◌∷◌}
 use Rattle.map_commands.specs.ProjectCommands.{map_word}
 use Rattle.map_commands.specs.Views.{reading}
-use Rattle.map_commands.specs.Words.{parts}
+use Rattle.map_words.specs.Words.{parts}
 use Rattle.map_commands.proofs.ProjectWords.{spelled}
 use Rattle.map_commands.proofs.project.grammar.read.Goals as goal
 

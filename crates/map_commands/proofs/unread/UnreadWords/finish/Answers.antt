@@ -1,5 +1,5 @@
 use Rattle.std.proofs.Common.{rules}
-use Rattle.map_commands.proofs.Parts.{parts-some}
+use Rattle.map_words.proofs.LineParts.{parts-some}
 use Rattle.map_commands.proofs.Readings.{left-over}
 use Rattle.map_commands.proofs.unread.UnreadWords.finish.Goals as goal
 

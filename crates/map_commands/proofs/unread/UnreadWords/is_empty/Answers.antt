@@ -1,4 +1,4 @@
-use Rattle.map_commands.proofs.Parts.{parts-some}
+use Rattle.map_words.proofs.LineParts.{parts-some}
 use Rattle.map_commands.proofs.unread.UnreadWords.is_empty.Goals as goal
 
 pub returns-in-Some : goal.returns-in-Some

@@ -6,8 +6,9 @@ use Rattle.std.specs.Int.{w16}
 use Rattle.lump_records.specs.Drawing.{IsBetween}
 use Rattle.map_commands.specs.Places.{Number}
 use Rattle.map_commands.specs.Views.{reading}
-use Rattle.map_commands.specs.Words.{parts_behind}
-use Rattle.map_commands.proofs.Accepted.{fits-between, number-ok}
+use Rattle.map_words.specs.Words.{parts_behind}
+use Rattle.map_words.proofs.NumeralWords.{fits-between}
+use Rattle.map_commands.proofs.Accepted.{number-ok}
 use Rattle.map_commands.proofs.Readings.{reads-fit}
 use Rattle.map_commands.proofs.unread.UnreadWords.short_number.Goals as goal
 

@@ -3,10 +3,9 @@ use Rattle.std.specs.Prelude.{option_copied}
 use Rattle.std.specs.Fmt.{signed_decimal}
 use Rattle.std.specs.Int.{w16, w32}
 use Rattle.lump_records.specs.Drawing.{IsBetween}
-use Rattle.map_commands.specs.Words.{parts_behind}
-use Rattle.map_commands.proofs.Accepted.{fits-between}
-use Rattle.map_commands.proofs.Numerals.{converted}
-use Rattle.map_commands.proofs.words.number_before.Goals as goal
+use Rattle.map_words.specs.Words.{parts_behind}
+use Rattle.map_words.proofs.NumeralWords.{converted, fits-between}
+use Rattle.map_words.proofs.numerals.number_before.Goals as goal
 
 pub returns-clause-word : goal.returns-clause-word
 returns-clause-word c =

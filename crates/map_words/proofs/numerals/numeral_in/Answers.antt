@@ -1,6 +1,6 @@
 use Rattle.std.proofs.Common.{rules, ◌≡◌, get_or}
-use Rattle.map_commands.proofs.Numerals.{minus-read}
-use Rattle.map_commands.proofs.words.numeral_in.Goals as goal
+use Rattle.map_words.proofs.NumeralWords.{minus-read}
+use Rattle.map_words.proofs.numerals.numeral_in.Goals as goal
 
 pub returns-in-Some-clause-value : goal.returns-in-Some-clause-value
 returns-in-Some-clause-value c =

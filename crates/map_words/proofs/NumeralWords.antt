@@ -1,6 +1,6 @@
--- A word that is a numeral, as `parse` reads it.
-use Rattle.std.proofs.Common.{◌≡◌, ℕ, suc, zero, ◌≤◌, ◌<◌, ◌^◌, Bool, true, false, cond, ◌&&◌, List, [], ◌∷◌, length, get_or, refl, sym, ◌∙◌, ap, arith, ℤ, pos, negsuc, nat_eq, FitsSigned, inl, inr, min, Option, Some, None, subst, drop, take, ◌+◌, ◌*◌, ◌-◌, ◌-ℤ◌, to_z, of_z, eq-eqb, length-drop, length-take-le, lit<}
-use Rattle.std.specs.Prelude.{decimal, neg_ℤ, int_le, nat_le, not, bytes_eq, codes}
+-- A word that is a numeral, as it is read.
+use Rattle.std.proofs.Common.{◌≡◌, ℕ, suc, zero, ◌≤◌, ◌<◌, ◌^◌, Bool, true, false, cond, ◌&&◌, List, [], ◌∷◌, length, get_or, refl, sym, ◌∙◌, ap, arith, ℤ, pos, negsuc, nat_eq, FitsSigned, inl, inr, min, subst, drop, take, ◌+◌, ◌*◌, ◌-◌, ◌-ℤ◌, to_z, of_z, eq-eqb, length-drop, length-take-le, lit<}
+use Rattle.std.specs.Prelude.{◌≤ℤ◌, decimal, neg_ℤ, int_le, nat_le, not, bytes_eq, codes}
 use Rattle.std.specs.Int.{w16, w32}
 use Rattle.std.specs.Fmt.{signed_decimal, digits}
 use Rattle.std.specs.List.{list_all}
@@ -18,9 +18,8 @@ use Rattle.std.specs.Int.Signed.{le_z_yes}
 use Rattle.std.proofs.lemmas.Fmt.{decimal-digits_value, digits_decimal, digits_value-decimal, decimal_nonempty, first_decimal}
 use Rattle.lump_records.specs.Drawing.{IsBetween}
 use Rattle.lump_records.specs.Names.{is_digit, is_nonzero_digit}
-use Rattle.map_commands.specs.Words.{clamped, has_natural_front, is_numeral, is_natural, numeral_value, parts}
-use Rattle.map_commands.proofs.Parts.{parts-at, parts-none}
-use Rattle.map_commands.specs.Places.{place_fault, Number}
+use Rattle.map_words.specs.Words.{clamped, has_natural_front, is_numeral, is_natural, numeral_value, parts}
+use Rattle.map_words.proofs.LineParts.{parts-at, parts-none}
 
 own : IsNumeralModel (λ ds. all_ascii_digits ds ≡ true) (digits_value 10)
 own = numerals_by_value _ tells_all_ascii_digits
@@ -144,12 +143,6 @@ between (negsuc a) (pos n) (pos b) f g p q = let h = g.sfits in record { sfits =
 between (negsuc a) (pos n) (negsuc b) f g p q = absurd cc
 between (negsuc a) (negsuc n) high f g p q = let h = f.sfits in record { sfits = omega (arith, h, leb-true n a p) }
 
-faulted : (n a b : Bool) → n ≡ true → (a ≡ true → b ≡ true → ⊥) → ◌≡◌ {A = Option ℕ} (cond n (cond (a && b) None (Some 2)) (Some 1)) (Some 2)
-faulted true true true e f = absurd (f refl refl)
-faulted true true false e f = refl
-faulted true false b e f = refl
-faulted false a b e f = absurd cc
-
 -- what the digits behind a minus stand for
 pub minus-value : (w : List ℕ) → get_or w 0 0 ≡ 45 → numeral_value w ≡ neg_ℤ (pos (digits_value 10 (take (length w - 1) (drop 1 w))))
 minus-value w h =
@@ -241,24 +234,19 @@ module _ (z n bound result : ℤ) (t : Bool) (is : n ≡ clamped z) (f : FitsSig
   pub compared-high : int_le (to_z w32 (of_z w32 n)) (to_z w32 (of_z w32 result)) ≡ t → int_le n bound ≡ t
   compared-high e = compared n bound t fits-read (fits-wider bound f) (subst (λ (k : ℤ). int_le (to_z w32 (of_z w32 n)) (to_z w32 (of_z w32 k)) ≡ t) same e)
 
+pub tells-le : (a b : ℤ) → a ≤ℤ b → int_le a b ≡ true
+tells-le a b h = grind (arith, ints)
+
+-- a number between two bounds of sixteen bits
+pub fits-between : (low high z : ℤ) → FitsSigned w16 low → FitsSigned w16 high → IsBetween low high z → FitsSigned w16 z
+fits-between low high z f g h = between low z high f g (tells-le low z h.at_least) (tells-le z high h.at_most)
+
 -- the number that is answered, by two conversions, and what it is between
 pub converted : (n : ℤ) → FitsSigned w16 n → to_z w16 (of_z w16 (to_z w32 (of_z w32 n))) ≡ n
 converted n f = ap (λ (k : ℤ). to_z w16 (of_z w16 k)) (to_z-of_z w32 n (fits-wider n f)) ∙ to_z-of_z w16 n f
 
 pub is-between : (low n high : ℤ) → int_le low n ≡ true → int_le n high ≡ true → IsBetween low high n
 is-between low n high p q = record { at_least = le_z_yes (T_from_true (int_le low n) p); at_most = le_z_yes (T_from_true (int_le n high) q) }
-
--- a numeral in its range
-pub fault-none : (w : List ℕ) (low high : ℤ) → is_numeral w ≡ true → int_le low (numeral_value w) ≡ true → int_le (numeral_value w) high ≡ true → place_fault (Number low high) w ≡ None
-fault-none w low high e p q = λ i. cond {A = Option ℕ} (e i) (cond {A = Option ℕ} (p i && q i) None (Some 2)) (Some 1)
-
--- a numeral whose clamped number is out of a range of sixteen bits
-pub fault-out : (w : List ℕ) (low high : ℤ) → is_numeral w ≡ true → FitsSigned w16 low → FitsSigned w16 high
-    → (int_le low (clamped (numeral_value w)) ≡ true → int_le (clamped (numeral_value w)) high ≡ true → ⊥) → place_fault (Number low high) w ≡ Some 2
-fault-out w low high e f g beyond =
-    let v = numeral_value w in
-    faulted (is_numeral w) (int_le low v) (int_le v high) e
-    (λ p q. let same = same-clamped v (between low v high f g p q) in beyond (ap (λ z. int_le low z) same ∙ p) (ap (λ z. int_le z high) same ∙ q))
 
 first-digit : (w : List ℕ) → all_ascii_digits w ≡ true → 0 < length w → (48 ≤ get_or w 0 0) × (get_or w 0 0 ≤ 57)
 first-digit [] e h = absurd (omega arith)

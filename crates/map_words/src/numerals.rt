@@ -1,45 +1,14 @@
-//! The parts of a line between its spaces, and those that are numbers.
-ghost use Rattle.std.specs.Prelude.{◌≡◌, ◌∷◌, ◌+◌, ◌<◌, ◌≤◌, IfOk, IfNone, IfSome, decimal, false, length, min, negsuc, option_copied, pos, true};
+//! The words that are numbers, and the number in front of a text.
+ghost use Rattle.std.specs.Prelude.{◌≡◌, ◌∷◌, ◌≤◌, IfNone, IfSome, decimal, false, min, negsuc, option_copied, pos, true};
 ghost use Rattle.std.specs.Str.Parse.{digits_value};
 ghost use Rattle.std.specs.Fmt.{signed_decimal};
 ghost use Rattle.std.specs.List.{list_all};
-ghost use Rattle.map_commands.specs.Errors.{TellsFault};
-ghost use Rattle.map_commands.specs.Places.{Number, place_fault};
-ghost use Rattle.map_commands.specs.Words.{clamped, has_natural_front, is_natural, is_numeral, is_printable, is_word, numeral_value, parts, parts_behind};
 ghost use Rattle.lump_records.specs.Drawing.{IsBetween};
 ghost use Rattle.lump_records.specs.Names.{is_digit};
-
-use crate::error::CommandError;
+ghost use Rattle.map_words.specs.Words.{clamped, has_natural_front, is_natural, is_numeral, numeral_value, parts, parts_behind};
 
 // One above the greatest distance from 0 of a number of sixteen bits.
 const BEYOND: u32 = 32_769;
-
-// Whether each byte is printable and not a space.
-fn are_printable(bytes: &[u8]) -> bool
-    ensures { result ≡ list_all is_printable bytes.now }
-{
-    bytes.iter().all(|b| b'!' <= *b && *b <= b'~')
-}
-
-/// Whether the bytes are a word.
-pub fn has_word_form(bytes: &[u8]) -> bool
-    ensures { result ≡ is_word bytes.now }
-{
-    !bytes.is_empty() && are_printable(bytes)
-}
-
-/// The part before the first space, and what follows that space, if there is one.
-pub fn next_part(line: &[u8]) -> (&[u8], Option<&[u8]>)
-    ensures parts { parts line.now ≡ result.0.now ∷ parts_behind (option_copied result.1) }
-    ensures short { IfSome result.1 (λ rest. length rest.now < length line.now) }
-{
-    for (i, b) in line.iter().enumerate() {
-        if *b == b' ' {
-            return (&line[..i], Some(&line[i + 1..]));
-        }
-    }
-    (line, None)
-}
 
 // Whether a byte is a digit.
 fn is_digit(byte: u8) -> bool
@@ -87,8 +56,8 @@ fn natural_in(word: &[u8]) -> Option<u32>
     digits_in(word)
 }
 
-// Reads a word as a number, or as `BEYOND` with its sign if it is further from 0. None if the word is not a number.
-fn numeral_in(word: &[u8]) -> Option<i32>
+/// Reads a word as a number, or as 32,769 with its sign if it is further from 0. None if the word is not a number.
+pub fn numeral_in(word: &[u8]) -> Option<i32>
     ensures none { IfNone result (is_numeral word.now ≡ false) }
     ensures numeral { IfSome result (λ _. is_numeral word.now ≡ true) }
     ensures value { IfSome result (λ n. n ≡ clamped (numeral_value word.now)) }
@@ -107,19 +76,6 @@ fn numeral_in(word: &[u8]) -> Option<i32>
             Some(n) => Some(n as i32),
             None => None,
         },
-    }
-}
-
-/// Reads a word as a number between two bounds.
-pub fn number_in(word: &[u8], low: i16, high: i16) -> Result<i16, CommandError>
-    ensures found { IfOk result (λ n. (numeral_value word.now ≡ n)
-        × (signed_decimal n ≡ word.now) × IsBetween low high n) }
-    ensures fault { TellsFault result (place_fault (Number low high) word.now) }
-{
-    match numeral_in(word) {
-        Some(n) if i32::from(low) <= n && n <= i32::from(high) => Ok(n as i16),
-        Some(_) => Err(CommandError::OutOfRange),
-        None => Err(CommandError::NotACommand),
     }
 }
 

@@ -1,8 +1,8 @@
 use Rattle.std.proofs.Common.{◌≡◌, ◌∙◌, ◌&&◌, true, get_or, sym, arith}
 use Rattle.std.proofs.lemmas.List.Folds.{list_all_at, list_all_more}
 use Rattle.lump_records.specs.Names.{is_digit}
-use Rattle.map_commands.proofs.Numerals.{digit-range, value-more}
-use Rattle.map_commands.proofs.words.digits_in.Goals as goal
+use Rattle.map_words.proofs.NumeralWords.{digit-range, value-more}
+use Rattle.map_words.proofs.numerals.digits_in.Goals as goal
 
 pub overflow_sub-byte : goal.overflow_sub-byte
 overflow_sub-byte c =

@@ -3,8 +3,8 @@ use Rattle.std.proofs.Math.Nat.{pow-succ'}
 use Rattle.std.proofs.Math.Numerals.{suc-eq-add-one}
 use Rattle.std.proofs.lemmas.List.Folds.{list_all_more}
 use Rattle.lump_records.specs.Names.{is_digit}
-use Rattle.map_commands.proofs.Numerals.{digit-range, last-word, short-word, value-more}
-use Rattle.map_commands.proofs.words.short_natural.Goals as goal
+use Rattle.map_words.proofs.NumeralWords.{digit-range, last-word, short-word, value-more}
+use Rattle.map_words.proofs.numerals.short_natural.Goals as goal
 
 pub returns-then-byte-eq32-clause-word : goal.returns-then-byte-eq32-clause-word
 returns-then-byte-eq32-clause-word c =

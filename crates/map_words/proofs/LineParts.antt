@@ -2,7 +2,7 @@
 use Rattle.std.proofs.Common.{◌≡◌, ℕ, zero, suc, ◌+◌, ◌-◌, ◌<◌, Bool, true, false, cond, List, [], ◌∷◌, length, get_or, take, drop, refl, ◌∙◌, ap, arith, add-one, nat_eq}
 use Rattle.std.proofs.lemmas.List.{take_rest}
 use Rattle.std.proofs.lemmas.Bool.{ne_eqb}
-use Rattle.map_commands.specs.Words.{parts, onto_first}
+use Rattle.map_words.specs.Words.{parts, onto_first}
 
 parts-space : (b : ℕ) (bs : List ℕ) → b ≡ 32 → parts (b ∷ bs) ≡ [] ∷ parts bs
 parts-space b bs e = ap (λ x. parts (x ∷ bs)) e

@@ -2,7 +2,7 @@ use Rattle.std.proofs.Common.{◌≡◌, ◌<◌, ◌≤◌, ◌^◌, true, get_
 use Rattle.std.specs.List.{list_all}
 use Rattle.std.specs.Str.Parse.{digits_value}
 use Rattle.lump_records.specs.Names.{is_digit}
-use Rattle.map_commands.proofs.words.short_natural.Given as goal
+use Rattle.map_words.proofs.numerals.short_natural.Given as goal
 
 -- the digits so far, the number that they write, and that a 0 stands alone
 abbrev pub invariant-loop-len : goal.invariant-loop-len

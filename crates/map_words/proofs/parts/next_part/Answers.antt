@@ -1,6 +1,6 @@
 use Rattle.std.proofs.Common.{arith}
-use Rattle.map_commands.proofs.Parts.{parts-at, parts-none}
-use Rattle.map_commands.proofs.words.next_part.Goals as goal
+use Rattle.map_words.proofs.LineParts.{parts-at, parts-none}
+use Rattle.map_words.proofs.parts.next_part.Goals as goal
 
 pub returns-then-b-eq32-clause-parts : goal.returns-then-b-eq32-clause-parts
 returns-then-b-eq32-clause-parts c = parts-at _ _ c.loop-i.invariant c.loop-i-test.true c.if-b-eq32.true

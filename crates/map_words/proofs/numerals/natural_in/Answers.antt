@@ -2,9 +2,9 @@ use Rattle.std.proofs.Common.{◌≡◌, ◌∙◌, ◌&&◌, true, false, sym, 
 use Rattle.std.specs.Prelude.{IfNone, IfSome}
 use Rattle.std.specs.List.{list_all}
 use Rattle.lump_records.specs.Names.{is_digit}
-use Rattle.map_commands.specs.Words.{is_natural}
-use Rattle.map_commands.proofs.Numerals.{natural-front}
-use Rattle.map_commands.proofs.words.natural_in.Goals as goal
+use Rattle.map_words.specs.Words.{is_natural}
+use Rattle.map_words.proofs.NumeralWords.{natural-front}
+use Rattle.map_words.proofs.numerals.natural_in.Goals as goal
 
 pub returns-then-not-has_natural_front-clause-none : goal.returns-then-not-has_natural_front-clause-none
 returns-then-not-has_natural_front-clause-none c =

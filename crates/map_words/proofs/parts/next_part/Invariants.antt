@@ -1,5 +1,5 @@
 use Rattle.std.proofs.Common.{◌≡◌, ℕ, ◌<◌, get_or}
-use Rattle.map_commands.proofs.words.next_part.Given as goal
+use Rattle.map_words.proofs.parts.next_part.Given as goal
 
 -- no space so far
 abbrev pub invariant-loop-i : goal.invariant-loop-i

@@ -3,9 +3,10 @@ use Rattle.std.specs.Prelude.{int_le}
 use Rattle.std.specs.Int.{w16}
 use Rattle.std.specs.Fmt.{signed_decimal}
 use Rattle.lump_records.specs.Drawing.{IsBetween}
-use Rattle.map_commands.specs.Words.{numeral_value}
-use Rattle.map_commands.proofs.Numerals.{between, canonical, clamped-same, compared-high, compared-low, converted, fault-none, fault-out, is-between}
-use Rattle.map_commands.proofs.words.number_in.Goals as goal
+use Rattle.map_words.specs.Words.{numeral_value}
+use Rattle.map_words.proofs.NumeralWords.{between, canonical, clamped-same, compared-high, compared-low, converted, is-between}
+use Rattle.map_commands.proofs.NumberFaults.{fault-none, fault-out}
+use Rattle.map_commands.proofs.bounded.number_in.Goals as goal
 
 pub returns-in-Some-clause-found : goal.returns-in-Some-clause-found
 returns-in-Some-clause-found c =

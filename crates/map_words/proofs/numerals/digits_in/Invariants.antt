@@ -2,7 +2,7 @@ use Rattle.std.proofs.Common.{◌≡◌, true, min, take}
 use Rattle.std.specs.List.{list_all}
 use Rattle.std.specs.Str.Parse.{digits_value}
 use Rattle.lump_records.specs.Names.{is_digit}
-use Rattle.map_commands.proofs.words.digits_in.Given as goal
+use Rattle.map_words.proofs.numerals.digits_in.Given as goal
 
 -- the digits so far, and the number that they write
 abbrev pub invariant-loop-byte : goal.invariant-loop-byte
