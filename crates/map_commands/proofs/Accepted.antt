@@ -1,6 +1,6 @@
 -- The line of a command whose numbers and names are in range has no fault.
 use Rattle.std.proofs.Common.{◌≡◌, ℕ, suc, ◌≤◌, ◌<◌, Bool, true, false, cond, ◌&&◌, List, [], ◌∷◌, length, get_or, refl, sym, ◌∙◌, ap, arith, nat_eq, nat_lt, ℤ, pos, negsuc, FitsSigned, Option, Some, None, lit≤}
-use Rattle.std.specs.Prelude.{◌||◌, ◌≤ℤ◌, IsTrue, bytes_eq, codes, decimal, int_le, nat_le, not}
+use Rattle.std.specs.Prelude.{◌||◌, IsTrue, bytes_eq, codes, decimal, int_le, nat_le, not}
 use Rattle.std.specs.Int.{w16}
 use Rattle.std.specs.Fmt.{signed_decimal}
 use Rattle.std.specs.List.{list_all}

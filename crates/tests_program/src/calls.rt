@@ -1,11 +1,11 @@
 //! Calls of the program, as rows of texts have them.
 
-use crate::asked::split;
 use cli_program::perform;
 use cli_words::{Request, RequestError, request};
 use std::test::Fail;
 use tests_rows::{expect_text, part};
 use tests_runs::streams::{Input, Output};
+use tests_words::split;
 
 // The status of a request; 255 if there is none.
 fn status_in(

@@ -1,8 +1,6 @@
-//! Tests of the program: its arguments, and each subcommand over streams and files.
+//! Tests of the program: each subcommand over streams and files.
 #![tactic(auto)]
 
-#[cfg(test)]
-mod asked;
 #[cfg(test)]
 mod calls;
 #[cfg(test)]
@@ -29,5 +27,3 @@ mod scripts;
 mod typed;
 #[cfg(test)]
 mod wads;
-#[cfg(test)]
-mod words;

@@ -1,6 +1,7 @@
-//! The program's arguments.
+//! What the arguments ask for, and what clap answers in place of a request.
 
-use crate::asked::{asked, split};
+use crate::asked::asked;
+use crate::words::split;
 use std::alloc::Global;
 use std::test::Fail;
 use tests_rows::{expect_scripts, expect_text, part, script_halves};

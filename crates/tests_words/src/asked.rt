@@ -32,13 +32,3 @@ pub fn asked(alloc: Global, words: &[&str]) -> Result<String, Fail> {
     let asked = request(alloc, words);
     told(alloc, &asked)
 }
-
-/// The words of a text behind `leveled`.
-pub fn split<'a>(alloc: Global, text: &'a str) -> Result<Vec<&'a str>, Fail> {
-    let mut words = Vec::new(alloc);
-    words.push("leveled")?;
-    for word in text.split(' ') {
-        words.push(word)?;
-    }
-    Ok(words)
-}
