@@ -6,7 +6,6 @@ import re
 import shutil
 import subprocess
 import sys
-import threading
 import time
 
 TOP = os.path.dirname(os.path.dirname(os.path.abspath(__file__)))
@@ -145,30 +144,62 @@ def tried(folder):
     return [*loader, copied]
 
 
+def processes():
+    """Returns for each process its parent, when it began, and the processor ticks of it and of its ended children."""
+    found = {}
+    for name in os.listdir("/proc"):
+        if name.isdigit():
+            try:
+                with open(f"/proc/{name}/stat", encoding="ascii", errors="replace") as file:
+                    told = file.read().rpartition(")")[2].split()
+            except OSError:
+                continue
+            found[int(name)] = int(told[1]), int(told[19]), sum(map(int, told[11:15]))
+    return found
+
+
+def words_of(process):
+    """Returns the arguments of the process."""
+    try:
+        with open(f"/proc/{process}/cmdline", encoding="utf-8", errors="replace") as file:
+            return file.read().split("\0")
+    except OSError:
+        return [""]
+
+
+def below(process, children):
+    """Yields the descendants of the process, if `children` holds those of each."""
+    for it in children.get(process, ()):
+        yield it
+        yield from below(it, children)
+
+
+def provers(above):
+    """Yields for each prover below the process its number, when it began, its arguments, and its processor ticks so far."""
+    found, children = processes(), {}
+    for process, (parent, _, _) in found.items():
+        children.setdefault(parent, []).append(process)
+    is_prover = lambda process: os.path.basename(words_of(process)[0]) == "rattle"
+    for process in below(above, children):
+        parent, began, used = found[process]
+        # a prover's child processes count with it
+        if is_prover(process) and not is_prover(parent):
+            yield process, began, words_of(process), used + sum(found[it][2] for it in below(process, children))
+
+
 def took(began):
     """Returns the time since then, as MM:SS."""
     seconds = int(time.monotonic() - began)
     return f"{seconds // 60:02}:{seconds % 60:02}"
 
 
-def wrong_bodies(name, folder=TOP):
-    """Returns how many wrong bodies a crate has."""
-    at = f"{folder}/crates/{name}/must-fail"
-    return sum(it.endswith(".edit") for it in os.listdir(at)) if os.path.isdir(at) else 0
-
-
-def tell(lines, proved, kept, tries, edits, began):
-    """Prints how far the gate is over these crates: what is under way or comes next, and what is left, also of wrong bodies."""
+def tell(lines, proved, began):
+    """Prints how far the gate is over these crates: what is under way or comes next, and what is left."""
     below = needs(lines)
     now = [name for name in lines if name not in proved and all(it in proved for it in below[name])]
     left = [name for name in lines if name not in proved and name not in now]
-    counted = lambda names: " ".join(f"{name} ({edits[name]})" for name in names)
     parts = [f"{took(began)} {len(proved)} of {len(lines)} crates are proved", f"now: {' '.join(now) or 'the tests and the program are run'}"]
     parts += [f"left: {' '.join(left)}"] if left else []
-    parts += [f"wrong bodies begun: {counted(tries)}"] if tries else []
-    # (of a crate that an earlier run proved, it tried the wrong bodies too)
-    waiting = [name for name in lines if edits[name] and name not in (*kept, *tries)]
-    parts += [f"wrong bodies left: {counted(waiting)}"] if waiting else []
     print("; ".join(parts), flush=True)
 
 
@@ -182,27 +213,22 @@ def lanes():
 def run_gate(words, lines, folder=TOP, is_told=True, watch=None):
     """Runs `rt ci` with these options in a folder, prints how far it is over these crates, and returns its status and lines.
 
-    If `is_told`, prints each of its lines too. Meanwhile another thread calls `watch` with the process. Unless RT_JOBS says
-    how many provers run side by side, `lanes` does: `rt ci` plans with several times the memory that they take here.
+    If `is_told`, prints each of its lines too. Calls `watch` with the process, and with the crates that are proved, a set that
+    grows. Unless RT_JOBS says how many provers run side by side, `lanes` does: `rt ci` plans with several times the memory that
+    they take here.
     """
-    began, proved, kept, tries, said = time.monotonic(), set(), set(), [], []
-    edits = {name: wrong_bodies(name, folder) for name in lines}
-    tell(lines, proved, kept, tries, edits, began)
+    began, proved, said = time.monotonic(), set(), []
+    tell(lines, proved, began)
     env = {"RT_JOBS": str(lanes()), **os.environ}
     with subprocess.Popen(["rt", "ci", *words], cwd=folder, env=env, stdout=subprocess.PIPE, text=True, errors="replace") as gate:
-        watcher = threading.Thread(target=watch or (lambda _: None), args=(gate,))
-        watcher.start()
+        if watch:
+            watch(gate, proved)
         for line in gate.stdout:
             said.append(line)
             if is_told:
                 print(line, end="", flush=True)
-            done = re.match(r"rt: (\w+)(?: proved$| is kept:|: trying its must-fail edits)", line)
+            done = re.match(r"rt: (\w+)(?: proved$| is kept:)", line)
             if done and done[1] in lines:
-                if line.startswith(f"rt: {done[1]}:"):
-                    tries.append(done[1])
-                elif "is kept:" in line:
-                    kept.add(done[1])
                 proved.add(done[1])
-                tell(lines, proved, kept, tries, edits, began)
-    watcher.join()
+                tell(lines, proved, began)
     return gate.returncode, said

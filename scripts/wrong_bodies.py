@@ -1,0 +1,196 @@
+"""Tries the wrong bodies of crates. Each is an edit in must-fail/, and the function that its line `clause:` names must refuse it.
+
+A function is proved from the contracts of the others alone, so edits of different functions don't disturb each other. They
+are written into one copy of the crate, and there only the edited functions and what they call are checked. An edit whose
+function isn't refused there for a reason of its own is tried as `rt ci` does it: alone, with a proof of the whole crate.
+"""
+
+import concurrent.futures
+import functools
+import importlib.machinery
+import importlib.util
+import os
+import re
+import shutil
+import subprocess
+import tempfile
+import time
+
+import crates
+
+# What is said of a proof if a name is missing that the edit took away, which says little of the contract.
+LOST_NAME = re.compile(r"has no field|is not in scope|has no `|was not admitted")
+
+
+@functools.cache
+def kit():
+    """Returns the program `rt` of the kit as a module."""
+    loader = importlib.machinery.SourceFileLoader("rt", os.path.realpath(shutil.which("rt")))
+    made = importlib.util.module_from_spec(importlib.util.spec_from_loader("rt", loader))
+    loader.exec_module(made)
+    return made
+
+
+def fits_kit():
+    """Returns whether this kit has what is used here of its program."""
+    try:
+        found, library = kit(), kit().rtlib
+    except (OSError, SyntaxError, AttributeError, TypeError):
+        return False
+    names = ("crates_below", "guarded", "RATTLE", "PARTS")
+    return hasattr(found, "must_fail") and all(hasattr(library, it) for it in names) and hasattr(library.Crate, "words")
+
+
+class WrongBody:
+    """An edit: its crate, its name, the function that must refuse it, and what it changes as (file, old text, new text)."""
+
+    def __init__(self, crate, path):
+        self.crate, self.path, self.name = crate, path, os.path.basename(path).removesuffix(".edit")
+        self.function, self.changes = "", []
+        changed = old = ""
+        with open(path, encoding="utf-8") as file:
+            for line in file:
+                word, _, rest = line.rstrip("\n").partition(": ")
+                if word == "clause":
+                    self.function = re.match(r"[\w:]*", rest)[0]
+                elif word == "file":
+                    changed = rest
+                elif word == "old":
+                    old = rest
+                elif word.rstrip(":") == "new":
+                    self.changes.append((changed, old, rest))
+
+    def write(self, folder):
+        """Writes the edit into a copy of its crate, and returns whether each old text stood there once; if not, writes nothing."""
+        texts = {}
+        for path, old, new in self.changes:
+            with open(f"{folder}/{path}", encoding="utf-8") as file:
+                text = texts.get(path, file.read())
+            if text.count(old) != 1:
+                return False
+            texts[path] = text.replace(old, new)
+        for path, text in texts.items():
+            with open(f"{folder}/{path}", "w", encoding="utf-8") as file:
+                file.write(text)
+        return bool(texts)
+
+
+def wrong_bodies_of(name):
+    """Returns the wrong bodies of a crate."""
+    at = f"{crates.TOP}/crates/{name}/must-fail"
+    files = sorted(os.listdir(at)) if os.path.isdir(at) else []
+    return [WrongBody(name, f"{at}/{it}") for it in files if it.endswith(".edit")]
+
+
+def rounds_of(bodies):
+    """Divides wrong bodies into those that can be tried together: each of another function, none of a definition or a proof."""
+    rounds = []
+    for body in bodies:
+        is_code = body.function and all(path.startswith("src/") for path, _, _ in body.changes)
+        for members in rounds:
+            if is_code and body.function not in [it.function for it in members]:
+                members.append(body)
+                break
+        else:
+            rounds += [[body]] if is_code else []
+    return rounds
+
+
+def own_reasons(said, function):
+    """Returns what a check said against the function itself, if it was refused: nothing if only a function that it calls was."""
+    ended = [n for n, it in enumerate(said) if re.match(rf"fn (\S+::)?{re.escape(function)}: (not proved|no proof)", it)]
+    if len(ended) != 1:
+        return []
+    *modules, last = re.match(r"fn (\S+): ", said[ended[0]])[1].split("::")[1:]
+    # (functions that call one another have their proof below one with a plus)
+    folder = "".join(f"{re.escape(it)}/" for it in modules) + rf"\+?{re.escape(last)}"
+    reasons = [it for it in said if re.match(rf"(\./)?proofs/{folder}/\w+\.antt:\d+:\d+: error", it)]
+    # what the tactics didn't prove of a function stands above its line, below that of the function before it
+    begins = max((n for n in range(ended[0]) if said[n].startswith("fn ")), default=-1)
+    return reasons + [it for it in said[begins + 1 : ended[0]] if it.startswith("note: src/") and "it is not proved that" in it]
+
+
+def told(body, reasons):
+    """Returns the line that says of a wrong body that it was refused, and the first reason, one of its contract if there is one."""
+    first = next((it for it in reasons if not LOST_NAME.search(it)), "")
+    only = "" if first else " (only because a proof names what the body took away, so this says little of the contract)"
+    return f"{body.crate}/{body.name}: refused by {body.function}{only}: {(first or reasons[0])[:160]}"
+
+
+def try_together(crate, members, kept):
+    """Returns what to say of those wrong bodies of a round that their own functions refused."""
+    with tempfile.TemporaryDirectory(prefix="wrong-") as room:
+        for part in kit().rtlib.PARTS:
+            if os.path.isdir(f"{crate.folder}/{part}"):
+                shutil.copytree(f"{crate.folder}/{part}", f"{room}/{part}")
+        written = [it for it in members if it.write(room)]
+        words = [*kit().rtlib.guarded(), kit().rtlib.RATTLE, "check", *crate.words(["--jobs", "1"], keeps=False)]
+        words += ["--incremental", kept] if kept else []
+        for body in written:
+            words += ["--only", body.function]
+        how = {"cwd": room, "stdin": subprocess.DEVNULL, "stdout": subprocess.PIPE, "stderr": subprocess.STDOUT}
+        said = subprocess.run(words, text=True, errors="replace", check=False, **how).stdout.splitlines()
+    if not written or not said or not re.match(r"only=\d+ proved=\d+", said[-1]):
+        return {}
+    found = {body: own_reasons(said, body.function) for body in written}
+    return {body: told(body, reasons) for body, reasons in found.items() if reasons}
+
+
+def try_crate(crate, bodies):
+    """Tries the wrong bodies of a crate, and returns for each whether it was refused, and what to say."""
+    found = {}
+    with tempfile.TemporaryDirectory(prefix="wrong-kept-") as kept:
+        rounds = rounds_of(bodies)
+        for members in rounds:
+            found.update(try_together(crate, members, kept if len(rounds) > 1 else None))
+    result = [(True, found[body]) for body in bodies if body in found]
+    for body in bodies:
+        if body not in found:
+            refused, text = kit().must_fail(crate, body.path, ["--jobs", "1"])
+            result.append((refused, f"{body.crate}/{body.name}: tried alone: {text}"))
+    return result
+
+
+def build_below(names):
+    """Proves and builds what these crates stand on, as far as it has changed, and returns whether that is proved."""
+    kit().rtlib.guarded()
+    found = [it for it in kit().rtlib.crates_below(crates.TOP) if it.name in names and wrong_bodies_of(it.name)]
+    return not any(below.build_rlib(["--jobs", "1"], anew=False) for it in found for below in it.below())
+
+
+def try_all(names, root, turn=lambda running: True):
+    """Tries the wrong bodies of these crates side by side, over what stands built below `root`, and prints how far it is.
+
+    Asks `turn` whether those of one more crate may begin beside `running` others: None ends it. Returns how many were refused
+    and how many were not.
+    """
+    began, results = time.monotonic(), []
+    bodies = {name: found for name in names if (found := wrong_bodies_of(name))}
+    crate_of = {it.name: it for it in kit().rtlib.crates_below(root)}
+    left, now = sorted(bodies, key=lambda it: -len(bodies[it]) * crate_of[it].count(rb"\n")), {}
+
+    def tell():
+        counted = lambda names: " ".join(f"{name} ({len(bodies[name])})" for name in names)
+        parts = [f"{len(results)} of {sum(map(len, bodies.values()))} wrong bodies are tried"]
+        parts += [f"now: {counted(now.values())}"] if now else []
+        parts += [f"left: {counted(left)}"] if left else []
+        print(f"{crates.took(began)} {'; '.join(parts)}", flush=True)
+
+    # (the first call of `guarded` sets a signal's handler, which only the main thread may)
+    kit().rtlib.guarded()
+    with concurrent.futures.ThreadPoolExecutor(crates.lanes()) as pool:
+        while left or now:
+            may = turn(len(now)) if left and len(now) < crates.lanes() else False
+            if may is None:
+                left.clear()
+            elif may:
+                name = left.pop(0)
+                now[pool.submit(try_crate, crate_of[name], bodies[name])] = name
+            for it in concurrent.futures.wait(now, timeout=0 if may else 1, return_when=concurrent.futures.FIRST_COMPLETED).done:
+                del now[it]
+                results.extend(it.result())
+                for refused, text in it.result():
+                    print(text if refused else f"NOT REFUSED: {text}", flush=True)
+                tell()
+    refused = sum(it[0] for it in results)
+    return refused, len(results) - refused
