@@ -60,15 +60,21 @@ class WrongBody:
                 elif word.rstrip(":") == "new":
                     self.changes.append((changed, old, rest))
 
-    def write(self, folder):
-        """Writes the edit into a copy of its crate, and returns whether each old text stood there once; if not, writes nothing."""
+    def texts(self, folder):
+        """Returns the texts of the files that the edit changes in a copy of its crate, or None if an old text doesn't stand there once."""
         texts = {}
         for path, old, new in self.changes:
-            with open(f"{folder}/{path}", encoding="utf-8") as file:
-                text = texts.get(path, file.read())
-            if text.count(old) != 1:
-                return False
-            texts[path] = text.replace(old, new)
+            if path not in texts and os.path.isfile(f"{folder}/{path}"):
+                with open(f"{folder}/{path}", encoding="utf-8") as file:
+                    texts[path] = file.read()
+            if texts.get(path, "").count(old) != 1:
+                return None
+            texts[path] = texts[path].replace(old, new)
+        return texts or None
+
+    def write(self, folder):
+        """Writes the edit into a copy of its crate, and returns whether it fits there."""
+        texts = self.texts(folder) or {}
         for path, text in texts.items():
             with open(f"{folder}/{path}", "w", encoding="utf-8") as file:
                 file.write(text)
