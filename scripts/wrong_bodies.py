@@ -60,6 +60,15 @@ class WrongBody:
                 elif word.rstrip(":") == "new":
                     self.changes.append((changed, old, rest))
 
+    def is_within_function(self, folder):
+        """Returns whether all that the edit changes in a copy of its crate stands in the function that must refuse it."""
+        heads = []
+        for path, old, _ in self.changes:
+            with open(f"{folder}/{path}", encoding="utf-8") as file:
+                front, found, _ = file.read().partition(old)
+            heads.append(re.findall(r"\bfn (\w+)", front + found)[-1:])
+        return heads == [self.function.split("::")[-1:]] * len(self.changes)
+
     def texts(self, folder):
         """Returns the texts of the files that the edit changes in a copy of its crate, or None if an old text doesn't stand there once."""
         texts = {}
@@ -88,17 +97,15 @@ def wrong_bodies_of(name):
     return [WrongBody(name, f"{at}/{it}") for it in files if it.endswith(".edit")]
 
 
-def rounds_of(bodies):
-    """Divides wrong bodies into those that can be tried together: each of another function, none of a definition or a proof."""
+def rounds_of(bodies, folder):
+    """Divides wrong bodies that change no more than a function of the crate into those of different functions."""
     rounds = []
     for body in bodies:
-        is_code = body.function and all(path.startswith("src/") for path, _, _ in body.changes)
-        for members in rounds:
-            if is_code and body.function not in [it.function for it in members]:
-                members.append(body)
-                break
-        else:
-            rounds += [[body]] if is_code else []
+        if body.texts(folder) and body.is_within_function(folder):
+            members = next((it for it in rounds if body.function not in [other.function for other in it]), None)
+            if members is None:
+                rounds.append(members := [])
+            members.append(body)
     return rounds
 
 
@@ -146,7 +153,7 @@ def try_crate(crate, bodies):
     """Tries the wrong bodies of a crate, and returns for each whether it was refused, and what to say."""
     found = {}
     with tempfile.TemporaryDirectory(prefix="wrong-kept-") as kept:
-        rounds = rounds_of(bodies)
+        rounds = rounds_of(bodies, crate.folder)
         for members in rounds:
             found.update(try_together(crate, members, kept if len(rounds) > 1 else None))
     result = [(True, found[body]) for body in bodies if body in found]
@@ -192,6 +199,8 @@ def try_all(names, root, turn=lambda running: True):
             elif may:
                 name = left.pop(0)
                 now[pool.submit(try_crate, crate_of[name], bodies[name])] = name
+            if not now:
+                time.sleep(1)
             for it in concurrent.futures.wait(now, timeout=0 if may else 1, return_when=concurrent.futures.FIRST_COMPLETED).done:
                 del now[it]
                 results.extend(it.result())
