@@ -145,17 +145,15 @@ def without_bodies(text, names):
     lines, made, at = text.split("\n"), [], 0
     while at < len(lines):
         head = HEAD.match(lines[at])
-        begins = ends = at
         if head and head[2] in names:
             inside = lambda n: n < len(lines) and (lines[n].startswith(f"{head[1]} ") or not lines[n])
+            is_next = lambda n: n > at and HEAD.match(lines[n])
             # the body begins at the first line with a brace at its end that stands as far in as the function
-            while begins < len(lines) and (inside(begins) or not lines[begins].endswith(("{", ";", "}"))):
-                begins += 1
-            ends = begins + 1
-            while inside(ends):
-                ends += 1
-            has_body = ends < len(lines) and lines[begins].endswith("{") and lines[ends] == f"{head[1]}}}"
-            if has_body:
+            ends_head = lambda n: is_next(n) or not inside(n) and lines[n].endswith(("{", "}"))
+            begins = next((n for n in range(at, len(lines)) if ends_head(n)), at)
+            ends = next((n for n in range(begins + 1, len(lines)) if not inside(n)), at)
+            # a function on one line, or one that a trait declares, has none
+            if not is_next(begins) and lines[begins].endswith("{") and lines[ends] == f"{head[1]}}}":
                 made += [*lines[at : begins + 1], f"{head[1]}    unreachable!()"]
                 at = ends
         made.append(lines[at])
