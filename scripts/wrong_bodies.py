@@ -271,7 +271,7 @@ def try_all(names, root, turn=lambda running: True):
     began, results = time.monotonic(), []
     bodies = {name: found for name in names if (found := wrong_bodies_of(name))}
     crate_of = {it.name: it for it in kit().rtlib.crates_below(root)}
-    left, now = sorted(bodies, key=lambda it: -len(bodies[it]) * crate_of[it].count(rb"\n")), {}
+    left, now = sorted(bodies, key=lambda it: -len(bodies[it])), {}
 
     def tell():
         counted = lambda names: " ".join(f"{name} ({len(bodies[name])})" for name in names)
